@@ -206,7 +206,8 @@ def try_rights():
 
 def try_arguments(options, chance):
     wrong = ["--data", "--data data", "--data data s h", "--data data s h c", "--concurrent --data data s"]
-    wrong += ["--early s", "--idle 5 s", "--segment 65536 s", "--data data --nothing s"]
+    wrong += ["--early s", "--idle 5 s", "--segment 65536 s", "--data data --nothing s", "--data data --segment s"]
+    wrong += ["--data data --segment %s s" % it for it in ("65535", "1099511627777", "x", "6e4", "=65536", "0x10000")]
     with tempfile.TemporaryDirectory(prefix="data-") as folder:
         for words in wrong:
             check("serve " + words, 2, run(Tried.program, "serve", *words.split(), cwd=folder)[2])

@@ -11,7 +11,8 @@ docs/glossary.md must be of the crate, and of the folder, that the page says. do
 file that it changes, and no others. The reading orders in docs/development/architecture.md and in the comment of the headline's page must
 name the files that `scripts/definitions` finds, with its numbers of words, and no others. Each crate must have one line in
 docs/development/architecture.md. The figures of README.md and docs/limits.md must be those of the raw output that they name, and what
-README.md says of lines and edits right within two of a hundred; it has at most 1,200 words. The pages for users have no
+README.md says of lines and edits right within two of a hundred; it has at most 1,200 words. `scripts/all` must run the scripts that
+docs/development/gate.md says it does. The pages for users have no
 sentence of more than 40 words. The last line is `N passed, M failed`.
 """
 import os
@@ -250,6 +251,15 @@ def check_counts(tally, repository):
     tally.check(words <= 1200, f"README.md: {words:,} words")
 
 
+def check_gate(tally, repository):
+    """The gate runs each script that its page has, but those of which the page says that it doesn't."""
+    page, runs = repository.pages["docs/development/gate.md"], text_of("scripts/all")
+    left_out = re.search(r"`scripts/all` runs all of these but (.*?), with few cases", page)[1]
+    for script in re.findall(r"^\| `scripts/([\w.]+)", page, re.MULTILINE):
+        is_run = " scripts/%s" % script in re.sub(r"(?m)^(#|\[).*", "", runs)
+        tally.check(is_run == ("`%s`" % script not in left_out), "scripts/all: %s" % script)
+
+
 def sentences(page):
     """The sentences of a page; of a table, what stands between semicolons too."""
     text = "\n".join(line for line in prose(page).split("\n") if not line.startswith("#"))
@@ -283,6 +293,7 @@ def main():
     check_architecture(tally)
     check_figures(tally, repository)
     check_counts(tally, repository)
+    check_gate(tally, repository)
     print("\n".join([*tally.failures, f"{tally.passed} passed, {len(tally.failures)} failed"]))
     return 1 if tally.failures else 0
 

@@ -49,9 +49,11 @@ class Turns:
             said = self.hub.answer("open")
             self.clients[said[2:]] = Client(words[1], words[2], words[3].replace("/", "\n"))
             return said
-        if words[0] not in ("turn", "got", "read") or words[1] not in self.clients:
+        if words[0] not in ("turn", "part", "got", "read") or words[1] not in self.clients:
             return ""
         client = self.clients[words[1]]
+        if words[0] == "part":
+            return ": " + self.part(words[1], client)
         if words[0] == "turn":
             return ": " + self.turn(words[1], client, min(int(words[2]), ROOM))
         return ": " + (client.got.replace("\n", "/") or "nothing" if words[0] == "got" else str(client.count))
@@ -70,6 +72,14 @@ class Turns:
         if client.has_ended and not is_due and not connection.unsent:
             return self.close(token, "ended")
         return "again" if is_due else "open"
+
+    def part(self, token, client):
+        if int(token) not in self.hub.connections:
+            return "gone"
+        connection = self.hub.connections[int(token)]
+        can_go_on = self.write(client, connection)
+        self.hub.answer("close " + token)
+        return "broken" if not can_go_on else "stopped" if connection.unsent else "ended"
 
     def wants_read(self, token):
         return " read" in self.hub.answer("wants " + token)
@@ -165,7 +175,8 @@ def schedule():
         said = turns.answer(call)
         if call.startswith("connect"):
             tokens.append(said[2:])
-    rest = [call for token in tokens for call in ["turn %s %d" % (token, ROOM)] * 2]
+    rest = [call for token in tokens for call in ["turn %s %d" % (token, ROOM)] * random.choice([0, 2])]
+    rest += ["part " + token for token in tokens if random.random() < 0.5]
     return calls + rest + [call for token in tokens for call in ("got " + token, "read " + token)]
 
 

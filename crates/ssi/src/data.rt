@@ -6,9 +6,12 @@ use mio::Poll;
 use mio::net::UnixListener;
 use sqlite_disk::Unknown;
 use ssi_cli::{AtClose, Fault, Status, listen, new_store};
-use ssi_data::{Clients, DataFault, Halt, Segment, Started, abort_left, open_last, serve, start};
+use ssi_data::{
+    Clients, DataFault, Halt, Rotation, Segment, Started, abort_open, open_last, rotate, serve,
+    start,
+};
 use ssi_durable::{Recovered, Server};
-use ssi_files::{FileDisk, Folder};
+use ssi_files::{FileDisk, Folder, SegmentNumber};
 use ssi_reads::IndexMarks;
 use ssi_versions::KeyChains;
 use std::{fs, io};
@@ -26,25 +29,33 @@ pub struct DataService<'a> {
     pub folder: &'a str,
     pub socket: &'a str,
     pub at_close: AtClose,
+    /// The next segment is begun once the log has more bytes, and more than twice as many as its loads.
+    pub segment: usize,
 }
 
 /// A server of what the folder has, and what was found there.
 #[derive(Drop)]
 struct Opened {
-    // the folder is locked until it is dropped
-    folder: Folder,
+    segments: Segments,
     server: FileServer,
-    segments: usize,
+    count: usize,
     recovered: Recovered,
+}
+
+/// A folder, which is locked until it is dropped, and the number of its last segment.
+#[derive(Drop)]
+struct Segments {
+    folder: Folder,
+    last: SegmentNumber,
 }
 
 impl<'a> DataService<'a> {
     /// Serves the store until a client sends `stop`. A socket that was left at the path is removed if its server is gone.
     pub fn run(self, rt: &HostRuntime) -> Result<Status, Problem<'a>> {
         let Opened {
-            folder: _locked,
+            mut segments,
             server,
-            segments,
+            count,
             recovered,
         } = match self.opened(rt) {
             Ok(opened) => opened,
@@ -54,14 +65,21 @@ impl<'a> DataService<'a> {
             Ok(listener) => listener,
             Err(e) => return Err(unbound(rt, self.socket, e.kind())),
         };
-        self.say_listening(rt, segments, recovered);
-        let served = self.serve_bound(rt, server, listener);
+        self.say_listening(rt, count, recovered);
+        let clients = Clients::new(
+            rt.alloc(),
+            server,
+            self.at_close,
+            self.segment,
+            recovered.loaded,
+        );
+        let served = self.serve_bound(rt, &mut segments, clients, listener);
         // A file that can't be removed is no fault.
         let _ = fs::remove_file(rt, self.socket);
         served
     }
 
-    /// Locks the folder, and starts a server of what it has.
+    /// Locks the folder, and starts a server of what it has. With `AtClose::Abort` no session has a transaction then.
     fn opened(self, rt: &HostRuntime) -> Result<Opened, DataFault> {
         let mut folder = Folder::open(rt, self.folder)?;
         let Segment {
@@ -74,13 +92,17 @@ impl<'a> DataService<'a> {
         let Started {
             mut server,
             recovered,
-            left,
-        } = start(alloc, store, disk, number.get(), self.at_close)?;
-        abort_left(alloc, &left, &mut server)?;
+        } = start(alloc, store, disk, number.get())?;
+        if self.at_close == AtClose::Abort && !abort_open(alloc, &mut server)? {
+            return Err(DataFault::Memory);
+        }
         Ok(Opened {
-            folder,
+            segments: Segments {
+                folder,
+                last: number,
+            },
             server,
-            segments: count,
+            count,
             recovered,
         })
     }
@@ -88,19 +110,20 @@ impl<'a> DataService<'a> {
     fn serve_bound(
         self,
         rt: &HostRuntime,
-        server: FileServer,
+        segments: &mut Segments,
+        mut clients: FileClients,
         listener: std::os::unix::net::UnixListener,
     ) -> Result<Status, Problem<'a>> {
         let Ok((mut poll, mut listener)) = polled(rt, listener) else {
             return Err(self.socket_fault());
         };
-        let mut clients = Clients::new(rt.alloc(), server, self.at_close);
-        self.serve_clients(rt, &mut poll, &mut listener, &mut clients)
+        self.serve_clients(rt, segments, &mut poll, &mut listener, &mut clients)
     }
 
     fn serve_clients(
         self,
         rt: &HostRuntime,
+        segments: &mut Segments,
         poll: &mut Poll,
         listener: &mut UnixListener,
         clients: &mut FileClients,
@@ -112,6 +135,7 @@ impl<'a> DataService<'a> {
             match serve(rt.alloc(), poll, listener, &mut events, clients) {
                 Halt::Stopped => return Ok(Status::Fine),
                 Halt::Full(why) => self.say_full(rt, why),
+                Halt::Rotate => self.begin_next(rt, segments, clients)?,
                 Halt::Failed(fault) => return Err(self.problem(DataFault::from(fault))),
                 Halt::SocketFault => return Err(self.socket_fault()),
             }
@@ -119,12 +143,49 @@ impl<'a> DataService<'a> {
         Err(self.socket_fault())
     }
 
+    /// Begins the next segment, unless there is no room for it.
+    fn begin_next(
+        self,
+        rt: &HostRuntime,
+        segments: &mut Segments,
+        clients: &mut FileClients,
+    ) -> Result<(), Problem<'a>> {
+        let Some(number) = segments.last.next() else {
+            // There is no number for another one.
+            clients.put_off();
+            return Ok(());
+        };
+        let store = new_store(rt.alloc());
+        match rotate(rt, &mut segments.folder, number, store, clients) {
+            Ok(Rotation::Begun) => {
+                segments.last = number;
+                self.say_begun(rt, number);
+                Ok(())
+            }
+            Ok(Rotation::Kept(why)) => {
+                self.say_kept(rt, number, why);
+                Ok(())
+            }
+            Err(fault) => Err(self.problem(fault)),
+        }
+    }
+
     fn say_listening(self, rt: &HostRuntime, segments: usize, recovered: Recovered) {
         let (folder, socket) = (self.folder, self.socket);
-        let Recovered { lines, torn } = recovered;
+        let Recovered { lines, torn, .. } = recovered;
         let _ = eprintln!(rt;
             "ssi: listening at {socket} ({folder}: segments {segments}, lines {lines}, torn bytes {torn})"
         );
+    }
+
+    fn say_begun(self, rt: &HostRuntime, number: SegmentNumber) {
+        let (folder, number) = (self.folder, number.get());
+        let _ = eprintln!(rt; "ssi: {folder}: segment {number}");
+    }
+
+    fn say_kept(self, rt: &HostRuntime, number: SegmentNumber, why: DataFault) {
+        let (folder, number) = (self.folder, number.get());
+        let _ = eprintln!(rt; "ssi: {folder}: segment {number} can't be made now: {why}");
     }
 
     fn say_full(self, rt: &HostRuntime, why: io::Error) {

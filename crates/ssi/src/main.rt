@@ -10,6 +10,7 @@ mod output_file;
 mod places;
 mod problem;
 mod replaced_file;
+mod seal;
 mod sockets;
 mod tasks;
 

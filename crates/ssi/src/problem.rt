@@ -20,6 +20,8 @@ pub enum Problem<'a> {
     OneFile(&'static str, &'static str),
     /// The folder of a store that keeps its data, and why it can't be used.
     Data(&'a str, DataFault),
+    /// The folder, and the number of the segment whose texts can't be written.
+    Unsealed(&'a str, u32),
 }
 
 impl<'a> From<Fault<'a>> for Problem<'a> {
@@ -45,6 +47,10 @@ impl Problem<'_> {
             }
             Problem::Data(path, fault) => {
                 let _ = eprintln!(rt; "ssi: data fault: {path}: {fault}");
+                Status::Failed
+            }
+            Problem::Unsealed(path, number) => {
+                let _ = eprintln!(rt; "ssi: write fault: {path}: the texts of segment {number}");
                 Status::Failed
             }
             Problem::OneFile(one, other) => {

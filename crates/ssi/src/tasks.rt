@@ -11,11 +11,14 @@ use crate::noted::Noted;
 use crate::output_file::OutputFile;
 use crate::places::lead_to_one_file;
 use crate::problem::{Problem, unbound, unwritable};
+use crate::seal::seal;
 use crate::sockets::{bound, polled};
 use clap::Error;
 use devices::Watched;
 use progress::{Counted, Progress, Reporter};
-use ssi_arguments::{LeftOpen, Manner, NoTask, Task, given_arguments, task_of};
+use ssi_arguments::{
+    LeftOpen, Manner, NoTask, SEGMENT, Task, given_arguments, segment_len, task_of,
+};
 use ssi_cli::{
     AtClose, Fault, ServingFault, Status, carry_out_commands, judge_stream, judge_texts,
     order_text, serve_commands, serve_commands_together,
@@ -72,15 +75,34 @@ fn carry_out<'a>(
             socket,
             folder,
             left_open,
+            segment,
         } => {
+            let Some(segment) = len_of(segment) else {
+                return Ok(wrong_segment(rt));
+            };
             let service = DataService {
                 folder,
                 socket,
                 at_close: at_close(left_open),
+                segment,
             };
             service.run(rt)
         }
+        Task::Seal { folder } => seal(rt, folder),
     }
+}
+
+/// How long the segments are that an option asks for, if it can be asked for.
+fn len_of(segment: Option<&str>) -> Option<usize> {
+    match segment {
+        Some(text) => segment_len(text),
+        None => Some(SEGMENT),
+    }
+}
+
+fn wrong_segment<R: Eprint>(rt: &R) -> Status {
+    let _ = eprintln!(rt; "ssi: --segment takes a number of bytes from 65536 to 1099511627776");
+    Status::WrongArguments
 }
 
 fn audit_input<R: Runtime + AllocGlobal>(

@@ -31,6 +31,9 @@ scripts = slice_index_or parser.subs 2 parser.top
 abbrev pub serves : Shape
 serves = slice_index_or parser.subs 3 parser.top
 
+abbrev pub seals : Shape
+seals = slice_index_or parser.subs 4 parser.top
+
 abbrev pub keeps : Shape
 keeps = slice_index_or folder_parser.subs 3 folder_parser.top
 
@@ -69,3 +72,7 @@ stops_at_script arguments = stays parser.top.rules names (first_argument (codes 
 pub stops_at_serve : (arguments : List Text) → (top_walk (codes "serve" ∷ arguments)).stopped ≡ Some (codes "serve", arguments)
 unfolding clap_on_literals
 stops_at_serve arguments = stays parser.top.rules names (first_argument (codes "serve")) (codes "serve") [] arguments refl
+
+pub stops_at_seal : (arguments : List Text) → (top_walk (codes "seal" ∷ arguments)).stopped ≡ Some (codes "seal", arguments)
+unfolding clap_on_literals
+stops_at_seal arguments = stays parser.top.rules names (first_argument (codes "seal")) (codes "seal") [] arguments refl

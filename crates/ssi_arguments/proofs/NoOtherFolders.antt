@@ -9,7 +9,7 @@ use Rattle.clap.specs.Walk.{Row, Rule, Text, arg_by_index, arg_by_long, finished
 use Rattle.clap.specs.Simple.{App, built, entered, help_rule, names_of, subcommand_of}
 use Rattle.clap.specs.Faults.{built_fault, check_fault, entered_fault, fault_of, turn_fault, walk_fault}
 use Rattle.clap.proofs.OnLiterals.{clap_on_literals}
-use Rattle.ssi_arguments.specs.Clauses.Arguments.{Request, are_plain, is_plain, folder_options_of, storage_for}
+use Rattle.ssi_arguments.specs.Clauses.Arguments.{Request, are_plain, is_plain, folder_options_of, given, segment_option, storage_for}
 use Rattle.ssi_arguments.specs.Clauses.CommandLine.{app_for, request_in, ssi_app}
 use Rattle.ssi_arguments.specs.Clauses.Storage.{has_option, storage_in}
 use Rattle.ssi_arguments.specs.declared.arguments.LeftOpen.{LeftOpen}
@@ -17,7 +17,7 @@ use Rattle.ssi_arguments.specs.declared.arguments.LeftOpen.TheVariants.{Keep, Ab
 use Rattle.ssi_arguments.specs.declared.storage.Storage.{Storage}
 use Rattle.ssi_arguments.specs.declared.storage.Storage.TheVariants.{Files, Folder}
 use Rattle.ssi_arguments.proofs.CommandWalks.{folder_parser, keeps, names, stops_at_serve, top_walk}
-use Rattle.ssi_arguments.proofs.FolderWalks.{aborts, awaiting, awaits, folder_held, takes_folder, walks_on}
+use Rattle.ssi_arguments.proofs.FolderWalks.{aborts, awaits_folder, awaits_length, data_held, folder_held, kept_held, plain_length, plain_parts, segment_held, takes_folder, takes_length, waiting_for, walks_on}
 use Rattle.ssi_arguments.proofs.NoOtherRequests.{after_below, after_walk, fault_at, first_turn, leaf_fault, no_check}
 use Rattle.ssi_arguments.proofs.PlainArguments.{at, turn_fault-plain}
 use Rattle.ssi_arguments.proofs.TakesRequests.{one_path, walk_one}
@@ -25,17 +25,20 @@ use Rattle.ssi_arguments.proofs.UnknownOptions.{unknown_option}
 
 -- ---- a store is kept in a folder exactly if the option asks for it
 
-files_keep_none : (a o s : Bool) (x y z w : Request) → storage_for x ≡ Files → storage_for y ≡ Files → storage_for z ≡ Files → storage_for w ≡ Files
-    → storage_for (if a then x else if o then y else if s then z else w) ≡ Files
-files_keep_none true o s x y z w ex ey ez ew = ex
-files_keep_none false true s x y z w ex ey ez ew = ey
-files_keep_none false false true x y z w ex ey ez ew = ez
-files_keep_none false false false x y z w ex ey ez ew = ew
+files_keep_none : (a o s l : Bool) (x y z w v : Request) → storage_for x ≡ Files → storage_for y ≡ Files → storage_for z ≡ Files
+    → storage_for w ≡ Files → storage_for v ≡ Files
+    → storage_for (if a then x else if o then y else if s then z else if l then w else v) ≡ Files
+files_keep_none true o s l x y z w v ex ey ez ew ev = ex
+files_keep_none false true s l x y z w v ex ey ez ew ev = ey
+files_keep_none false false true l x y z w v ex ey ez ew ev = ez
+files_keep_none false false false true x y z w v ex ey ez ew ev = ew
+files_keep_none false false false false x y z w v ex ey ez ew ev = ev
 
 request_in-files : (met : Option (Text × List Row)) → storage_for (request_in Files met) ≡ Files
 request_in-files None = refl
 request_in-files (Some (name, rows)) =
-    files_keep_none (bytes_eq name (codes "audit")) (bytes_eq name (codes "order")) (bytes_eq name (codes "script")) _ _ _ _ refl refl refl refl
+    files_keep_none (bytes_eq name (codes "audit")) (bytes_eq name (codes "order")) (bytes_eq name (codes "script"))
+    (bytes_eq name (codes "seal")) _ _ _ _ _ refl refl refl refl refl
 
 abbrev met : App → List Text → Option (Text × List Row)
 met app arguments = entered app (stop_after app.top.rules (names_of app) arguments)
@@ -72,53 +75,81 @@ keeps_by_option arguments = keeps_so (drop 1 arguments)
 -- the options have no fault, so what follows them has none
 after_data_fault : (f : Text) (arguments : List Text) → is_plain f ≡ true
     → walk_fault keeps [] (at nothing_held 1) (codes "--data" ∷ f ∷ arguments) ≡ []
-    → walk_fault keeps [] (at (folder_held Keep f) 1) arguments ≡ []
+    → walk_fault keeps [] (at (data_held (f ∷ [])) 1) arguments ≡ []
 after_data_fault f arguments p e =
     let t₁ = first_turn keeps [] (at nothing_held 1) (codes "--data") (f ∷ arguments) e in
-    let t₂ = first_turn keeps [] awaiting f arguments (sym (ap (λ w. walk_fault keeps [] w (f ∷ arguments)) awaits) ∙ t₁.1) in
+    let t₂ = first_turn keeps [] (waiting_for (codes "data") (data_held [])) f arguments
+    (sym (ap (λ w. walk_fault keeps [] w (f ∷ arguments)) awaits_folder) ∙ t₁.1) in
     sym (ap (λ w. walk_fault keeps [] w arguments) (takes_folder f p)) ∙ t₂.1
 
-after_options_fault : (l : LeftOpen) (f : Text) (arguments : List Text) → is_plain f ≡ true
-    → walk_fault keeps [] (at nothing_held 1) (folder_options_of l f ++ arguments) ≡ []
-    → walk_fault keeps [] (at (folder_held l f) 1) arguments ≡ []
-after_options_fault Keep f arguments p e = after_data_fault f arguments p e
-after_options_fault Abort f arguments p e =
-    let t = first_turn keeps [] (at (folder_held Keep f) 1) (codes "--abort-on-close") arguments
-    (after_data_fault f (codes "--abort-on-close" ∷ arguments) p e) in
-    sym (ap (λ w. walk_fault keeps [] w arguments) (aborts f)) ∙ t.1
+after_segment_fault : (f n : Text) (arguments : List Text) → is_plain n ≡ true
+    → walk_fault keeps [] (at (data_held (f ∷ [])) 1) (codes "--segment" ∷ n ∷ arguments) ≡ []
+    → walk_fault keeps [] (at (segment_held f (n ∷ [])) 1) arguments ≡ []
+after_segment_fault f n arguments q e =
+    let t₁ = first_turn keeps [] (at (data_held (f ∷ [])) 1) (codes "--segment") (n ∷ arguments) e in
+    let t₂ = first_turn keeps [] (waiting_for (codes "segment") (segment_held f [])) n arguments
+    (sym (ap (λ w. walk_fault keeps [] w (n ∷ arguments)) (awaits_length f)) ∙ t₁.1) in
+    sym (ap (λ w. walk_fault keeps [] w arguments) (takes_length f n q)) ∙ t₂.1
 
-no_socket_fault : (l : LeftOpen) (f : Text) → check_fault keeps (finished keeps.rules (folder_held l f)) false ≡ [] → ⊥
+after_abort_fault : (g : Option Text) (f : Text) (arguments : List Text)
+    → walk_fault keeps [] (at (kept_held g f) 1) (codes "--abort-on-close" ∷ arguments) ≡ []
+    → walk_fault keeps [] (at (folder_held Abort g f) 1) arguments ≡ []
+after_abort_fault g f arguments e =
+    let t = first_turn keeps [] (at (kept_held g f) 1) (codes "--abort-on-close") arguments e in
+    sym (ap (λ w. walk_fault keeps [] w arguments) (aborts g f)) ∙ t.1
+
+after_kept_fault : (g : Option Text) (f : Text) (arguments : List Text) → is_plain f ≡ true → are_plain (given g) ≡ true
+    → walk_fault keeps [] (at nothing_held 1) (codes "--data" ∷ f ∷ segment_option g ++ arguments) ≡ []
+    → walk_fault keeps [] (at (kept_held g f) 1) arguments ≡ []
+after_kept_fault None f arguments p q e = after_data_fault f arguments p e
+after_kept_fault (Some n) f arguments p q e =
+    after_segment_fault f n arguments (plain_length n q) (after_data_fault f (codes "--segment" ∷ n ∷ arguments) p e)
+
+after_options_fault : (l : LeftOpen) (g : Option Text) (f : Text) (arguments : List Text) → is_plain f ≡ true
+    → are_plain (given g) ≡ true → walk_fault keeps [] (at nothing_held 1) (folder_options_of l g f ++ arguments) ≡ []
+    → walk_fault keeps [] (at (folder_held l g f) 1) arguments ≡ []
+after_options_fault Keep None f arguments p q e = after_kept_fault None f arguments p q e
+after_options_fault Keep (Some n) f arguments p q e = after_kept_fault (Some n) f arguments p q e
+after_options_fault Abort None f arguments p q e =
+    after_abort_fault None f arguments (after_kept_fault None f (codes "--abort-on-close" ∷ arguments) p q e)
+after_options_fault Abort (Some n) f arguments p q e =
+    after_abort_fault (Some n) f arguments (after_kept_fault (Some n) f (codes "--abort-on-close" ∷ arguments) p q e)
+
+no_socket_fault : (l : LeftOpen) (g : Option Text) (f : Text)
+    → check_fault keeps (finished keeps.rules (folder_held l g f)) false ≡ [] → ⊥
 unfolding clap_on_literals
-no_socket_fault Keep f e = absurd (cc e)
-no_socket_fault Abort f e = absurd (cc e)
+no_socket_fault Keep None f e = absurd (cc e)
+no_socket_fault Keep (Some n) f e = absurd (cc e)
+no_socket_fault Abort None f e = absurd (cc e)
+no_socket_fault Abort (Some n) f e = absurd (cc e)
 
-keep_alone : (l : LeftOpen) (f : Text) → is_plain f ≡ true → leaf_fault keeps (folder_options_of l f ++ []) ≡ [] → ⊥
-keep_alone l f p e =
-    let missing = ap (λ w. check_fault keeps (finished keeps.rules w.held) false) (walks_on l f [] p) in
-    no_socket_fault l f (sym missing ∙ no_check keeps [] (folder_options_of l f ++ []) false [] e)
+module _ (l : LeftOpen) (g : Option Text) (f : Text) (p : is_plain f ≡ true) (o : are_plain (given g) ≡ true) where
+  keep_alone : leaf_fault keeps (folder_options_of l g f ++ []) ≡ [] → ⊥
+  keep_alone e =
+      let missing = ap (λ w. check_fault keeps (finished keeps.rules w.held) false) (walks_on l g f [] p o) in
+      no_socket_fault l g f (sym missing ∙ no_check keeps [] (folder_options_of l g f ++ []) false [] e)
 
-keep_more : (l : LeftOpen) (f s argument : Text) (arguments : List Text) → is_plain f ≡ true → is_plain s ≡ true → is_plain argument ≡ true
-    → leaf_fault keeps (folder_options_of l f ++ s ∷ argument ∷ arguments) ≡ [] → ⊥
-keep_more l f s argument arguments p q r e =
-    let b = folder_held l f in
-    let rest = after_options_fault l f (s ∷ argument ∷ arguments) p
-    (after_walk keeps [] (folder_options_of l f ++ s ∷ argument ∷ arguments) false [] e).0 in
-    let t₁ = first_turn keeps [] (at b 1) s (argument ∷ arguments) rest in
-    let t₂ = first_turn keeps [] (walked keeps.rules [] (at b 1) s) argument arguments t₁.1 in
-    let stray : turn_fault keeps [] (one_path b keeps s) argument ≡ [] =
-    sym (ap (λ w. turn_fault keeps [] w argument) (walk_one b keeps s q)) ∙ t₂.0 in
-    let none = sym (turn_fault-plain [] (one_path b keeps s).held 2 keeps argument r refl) ∙ stray in
-    absurd (cc none)
+  keep_more : (s argument : Text) (arguments : List Text) → is_plain s ≡ true → is_plain argument ≡ true
+      → leaf_fault keeps (folder_options_of l g f ++ s ∷ argument ∷ arguments) ≡ [] → ⊥
+  keep_more s argument arguments q r e =
+      let b = folder_held l g f in
+      let rest = after_options_fault l g f (s ∷ argument ∷ arguments) p o
+      (after_walk keeps [] (folder_options_of l g f ++ s ∷ argument ∷ arguments) false [] e).0 in
+      let t₁ = first_turn keeps [] (at b 1) s (argument ∷ arguments) rest in
+      let t₂ = first_turn keeps [] (walked keeps.rules [] (at b 1) s) argument arguments t₁.1 in
+      let stray : turn_fault keeps [] (one_path b keeps s) argument ≡ [] =
+      sym (ap (λ w. turn_fault keeps [] w argument) (walk_one b keeps s q)) ∙ t₂.0 in
+      let none = sym (turn_fault-plain [] (one_path b keeps s).held 2 keeps argument r refl) ∙ stray in
+      absurd (cc none)
 
-one_socket : (l : LeftOpen) (f : Text) (others : List Text) → are_plain (f ∷ others) ≡ true
-    → leaf_fault keeps (folder_options_of l f ++ others) ≡ [] → (s : Text) × (others ≡ s ∷ [])
-one_socket l f [] p e = absurd (keep_alone l f (and_parts (is_plain f) true p).0 e)
-one_socket l f (s ∷ []) p e = (s, refl)
-one_socket l f (s ∷ argument ∷ arguments) p e =
-    let p₁ = and_parts (is_plain f) (are_plain (s ∷ argument ∷ arguments)) p in
-    let p₂ = and_parts (is_plain s) (are_plain (argument ∷ arguments)) p₁.1 in
-    let p₃ = and_parts (is_plain argument) (are_plain arguments) p₂.1 in
-    absurd (keep_more l f s argument arguments p₁.0 p₂.0 p₃.0 e)
+  one_socket : (others : List Text) → are_plain others ≡ true → leaf_fault keeps (folder_options_of l g f ++ others) ≡ []
+      → (s : Text) × (others ≡ s ∷ [])
+  one_socket [] q e = absurd (keep_alone e)
+  one_socket (s ∷ []) q e = (s, refl)
+  one_socket (s ∷ argument ∷ arguments) q e =
+      let p₂ = and_parts (is_plain s) (are_plain (argument ∷ arguments)) q in
+      let p₃ = and_parts (is_plain argument) (are_plain arguments) p₂.1 in
+      absurd (keep_more s argument arguments p₂.0 p₃.0 e)
 
 -- the fault of `serve` with a folder, in that of the whole
 leaf_fault-none : (arguments : List Text) → built_fault folder_parser nothing_held (codes "serve" ∷ arguments) ≡ [] → leaf_fault keeps arguments ≡ []
@@ -127,20 +158,21 @@ leaf_fault-none arguments e =
     sym (ap (entered_fault folder_parser) (stops_at_serve arguments))
     ∙ (after_below folder_parser.top names (codes "serve" ∷ arguments) (is_some (entered folder_parser stop)) (entered_fault folder_parser stop) e).0
 
-storage_in-options : (l : LeftOpen) (f : Text) (others : List Text) → storage_in (codes "serve" ∷ folder_options_of l f ++ others) ≡ Folder
-storage_in-options Keep f others = refl
-storage_in-options Abort f others = refl
+storage_in-options : (l : LeftOpen) (g : Option Text) (f : Text) (others : List Text)
+    → storage_in (codes "serve" ∷ folder_options_of l g f ++ others) ≡ Folder
+storage_in-options l g f others = refl
 
 -- after the options of a folder a single plain argument is accepted
-pub asks_to_keep : (arguments : List Text) (l : LeftOpen) (f : Text) (others : List Text) → are_plain (f ∷ others) ≡ true
-    → drop 1 arguments ≡ codes "serve" ∷ folder_options_of l f ++ others → fault_of (app_for arguments) arguments ≡ []
-    → (s : Text) × (others ≡ s ∷ [])
-asks_to_keep arguments l f others p e none =
-    let whole : fault_at (codes "serve" ∷ folder_options_of l f ++ others) ≡ [] = sym (ap fault_at e) ∙ none in
-    let folder : built_fault folder_parser nothing_held (codes "serve" ∷ folder_options_of l f ++ others) ≡ [] =
-    sym (ap (λ storage. built_fault (built (ssi_app storage)) nothing_held (codes "serve" ∷ folder_options_of l f ++ others))
-    (storage_in-options l f others)) ∙ whole in
-    one_socket l f others p (leaf_fault-none (folder_options_of l f ++ others) folder)
+pub asks_to_keep : (arguments : List Text) (l : LeftOpen) (g : Option Text) (f : Text) (others : List Text)
+    → are_plain (f ∷ given g ++ others) ≡ true → drop 1 arguments ≡ codes "serve" ∷ folder_options_of l g f ++ others
+    → fault_of (app_for arguments) arguments ≡ [] → (s : Text) × (others ≡ s ∷ [])
+asks_to_keep arguments l g f others p e none =
+    let plain = plain_parts f g others p in
+    let whole : fault_at (codes "serve" ∷ folder_options_of l g f ++ others) ≡ [] = sym (ap fault_at e) ∙ none in
+    let folder : built_fault folder_parser nothing_held (codes "serve" ∷ folder_options_of l g f ++ others) ≡ [] =
+    sym (ap (λ storage. built_fault (built (ssi_app storage)) nothing_held (codes "serve" ∷ folder_options_of l g f ++ others))
+    (storage_in-options l g f others)) ∙ whole in
+    one_socket l g f plain.0 plain.1 others plain.2 (leaf_fault-none (folder_options_of l g f ++ others) folder)
 
 -- ---- no `--concurrent` beside the folder
 

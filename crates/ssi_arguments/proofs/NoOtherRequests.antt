@@ -10,13 +10,13 @@ use Rattle.clap.specs.Kinds.{Kinds, or_else}
 use Rattle.clap.specs.Faults.{built_fault, check_fault, defaults_fault, entered_fault, fault_of, is_simple_and_free, level_fault, settle_fault, turn_fault, walk_fault}
 use Rattle.clap.specs.declared.error.kind.ErrorKind.TheVariants.{DisplayHelp, DisplayVersion}
 use Rattle.clap.proofs.OnLiterals.{clap_on_literals}
-use Rattle.ssi_arguments.specs.Clauses.Arguments.{Request, pipe, audit, order, script, serve, are_plain, is_plain, arguments_of}
+use Rattle.ssi_arguments.specs.Clauses.Arguments.{Request, pipe, audit, order, script, serve, seal, are_plain, is_plain, arguments_of}
 use Rattle.ssi_arguments.specs.declared.arguments.Manner.TheVariants.{InTurn}
 use Rattle.ssi_arguments.specs.declared.storage.Storage.{Storage}
 use Rattle.ssi_arguments.specs.declared.storage.Storage.TheVariants.{Files, Folder}
 use Rattle.ssi_arguments.specs.Clauses.CommandLine.{app_for, ssi_app}
 use Rattle.ssi_arguments.specs.Clauses.Storage.{storage_in}
-use Rattle.ssi_arguments.proofs.CommandWalks.{names, orders, pairs, parser, serves, top_walk, stops_at_audit, stops_at_order, stops_at_script, stops_at_serve}
+use Rattle.ssi_arguments.proofs.CommandWalks.{names, orders, pairs, parser, seals, serves, top_walk, stops_at_audit, stops_at_order, stops_at_script, stops_at_seal, stops_at_serve}
 use Rattle.ssi_arguments.proofs.PlainArguments.{at, turn_fault-plain}
 use Rattle.ssi_arguments.proofs.StorageLemmas.{storage_in-plain}
 use Rattle.ssi_arguments.proofs.TakesRequests.{one_path, two_paths, three_paths, path_plain, paths_plain, walk_one, walk_two, walk_front, walk_three}
@@ -76,6 +76,10 @@ serve_alone e = absurd (cc e)
 order_alone : leaf_fault orders [] ≡ [] → ⊥
 unfolding clap_on_literals
 order_alone e = absurd (cc e)
+
+seal_alone : leaf_fault seals [] ≡ [] → ⊥
+unfolding clap_on_literals
+seal_alone e = absurd (cc e)
 
 pair_one : (name h : Text) → is_plain h ≡ true → leaf_fault (pairs name) (h ∷ []) ≡ [] → ⊥
 pair_one name h p e =
@@ -150,6 +154,19 @@ order_more h argument arguments p e =
     let none = sym (turn_fault-plain [] (one_path nothing_held orders h).held 2 orders argument p₂.0 refl) ∙ stray in
     absurd (cc none)
 
+seal_more : (f argument : Text) (arguments : List Text) → are_plain (f ∷ argument ∷ arguments) ≡ true
+    → leaf_fault seals (f ∷ argument ∷ arguments) ≡ [] → ⊥
+seal_more f argument arguments p e =
+    let p₁ = and_parts (is_plain f) (are_plain (argument ∷ arguments)) p in
+    let p₂ = and_parts (is_plain argument) (are_plain arguments) p₁.1 in
+    let t₁ = first_turn seals [] (at nothing_held 1) f (argument ∷ arguments)
+    (after_walk seals [] (f ∷ argument ∷ arguments) false [] e).0 in
+    let t₂ = first_turn seals [] (walked seals.rules [] (at nothing_held 1) f) argument arguments t₁.1 in
+    let stray : turn_fault seals [] (one_path nothing_held seals f) argument ≡ [] =
+    sym (ap (λ w. turn_fault seals [] w argument) (walk_one nothing_held seals f p₁.0)) ∙ t₂.0 in
+    let none = sym (turn_fault-plain [] (one_path nothing_held seals f).held 2 seals argument p₂.0 refl) ∙ stray in
+    absurd (cc none)
+
 -- ---- the name of the subcommand
 
 abbrev whole_fault : List Text → Kinds
@@ -203,6 +220,11 @@ asks_order [] p e = absurd (order_alone e)
 asks_order (h ∷ []) p e = (order h, refl)
 asks_order (h ∷ argument ∷ arguments) p e = absurd (order_more h argument arguments p e)
 
+asks_seal : (arguments : List Text) → are_plain arguments ≡ true → leaf_fault seals arguments ≡ [] → Ask (codes "seal" ∷ arguments)
+asks_seal [] p e = absurd (seal_alone e)
+asks_seal (f ∷ []) p e = (seal f, refl)
+asks_seal (f ∷ argument ∷ arguments) p e = absurd (seal_more f argument arguments p e)
+
 audit_words : (arguments : List Text) → are_plain arguments ≡ true → whole_fault (codes "audit" ∷ arguments) ≡ []
     → Ask (codes "audit" ∷ arguments)
 audit_words arguments p e = asks_pair (codes "audit") (λ h c. (audit h c, refl)) arguments p
@@ -223,6 +245,11 @@ serve_words : (arguments : List Text) → are_plain arguments ≡ true → whole
 serve_words arguments p e = asks_serve arguments p
     (sym (ap (entered_fault parser) (stops_at_serve arguments)) ∙ leaf_of (codes "serve") arguments e)
 
+seal_words : (arguments : List Text) → are_plain arguments ≡ true → whole_fault (codes "seal" ∷ arguments) ≡ []
+    → Ask (codes "seal" ∷ arguments)
+seal_words arguments p e = asks_seal arguments p
+    (sym (ap (entered_fault parser) (stops_at_seal arguments)) ∙ leaf_of (codes "seal") arguments e)
+
 module _ (argument : Text) (arguments : List Text) where
   abbrev Reads : Text → Type 0
   Reads name = are_plain (name ∷ arguments) ≡ true → whole_fault (name ∷ arguments) ≡ [] → Ask (name ∷ arguments)
@@ -230,20 +257,21 @@ module _ (argument : Text) (arguments : List Text) where
   named : (name : Text) → bytes_eq name argument ≡ true → Reads name → Reads argument
   named name same reads = subst Reads ((bytes_eq-Decides name argument).0 same) reads
 
-  reads : (a o c v h : Bool) → bytes_eq (codes "audit") argument ≡ a → bytes_eq (codes "order") argument ≡ o
-      → bytes_eq (codes "script") argument ≡ c → bytes_eq (codes "serve") argument ≡ v → bytes_eq (codes "help") argument ≡ h
-      → Reads argument
-  reads true o c v h ea eo ec ev eh = named (codes "audit") ea (audit_words arguments)
-  reads false true c v h ea eo ec ev eh = named (codes "order") eo (order_words arguments)
-  reads false false true v h ea eo ec ev eh = named (codes "script") ec (script_words arguments)
-  reads false false false true h ea eo ec ev eh = named (codes "serve") ev (serve_words arguments)
-  reads false false false false true ea eo ec ev eh = named (codes "help") eh (λ p e. absurd (help_faults arguments e))
-  reads false false false false false ea eo ec ev eh = λ p e.
-      absurd (other_faults argument arguments (and_parts (is_plain argument) (are_plain arguments) p).0 (rw (ea, eo, ec, ev, eh) refl) e)
+  reads : (a o c v l h : Bool) → bytes_eq (codes "audit") argument ≡ a → bytes_eq (codes "order") argument ≡ o
+      → bytes_eq (codes "script") argument ≡ c → bytes_eq (codes "serve") argument ≡ v → bytes_eq (codes "seal") argument ≡ l
+      → bytes_eq (codes "help") argument ≡ h → Reads argument
+  reads true o c v l h ea eo ec ev el eh = named (codes "audit") ea (audit_words arguments)
+  reads false true c v l h ea eo ec ev el eh = named (codes "order") eo (order_words arguments)
+  reads false false true v l h ea eo ec ev el eh = named (codes "script") ec (script_words arguments)
+  reads false false false true l h ea eo ec ev el eh = named (codes "serve") ev (serve_words arguments)
+  reads false false false false true h ea eo ec ev el eh = named (codes "seal") el (seal_words arguments)
+  reads false false false false false true ea eo ec ev el eh = named (codes "help") eh (λ p e. absurd (help_faults arguments e))
+  reads false false false false false false ea eo ec ev el eh = λ p e.
+      absurd (other_faults argument arguments (and_parts (is_plain argument) (are_plain arguments) p).0 (rw (ea, eo, ec, ev, el, eh) refl) e)
 
 asks : (arguments : List Text) → are_plain arguments ≡ true → whole_fault arguments ≡ [] → Ask arguments
 asks [] p e = (pipe, refl)
-asks (argument ∷ arguments) p e = reads argument arguments _ _ _ _ _ refl refl refl refl refl p e
+asks (argument ∷ arguments) p e = reads argument arguments _ _ _ _ _ _ refl refl refl refl refl refl p e
 
 pub simple_and_free : (storage : Storage) → is_simple_and_free (ssi_app storage) ≡ true
 unfolding clap_on_literals

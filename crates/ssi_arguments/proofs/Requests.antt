@@ -4,11 +4,10 @@ use Rattle.clap.specs.Walk.{Text, nothing_held}
 use Rattle.clap.specs.Simple.{entered, is_simple, subcommand_of}
 use Rattle.clap.specs.Takes.{built_takes, takes}
 use Rattle.clap.proofs.OnLiterals.{clap_on_literals}
-use Rattle.ssi_arguments.specs.Clauses.Arguments.{Request, pipe, audit, order, script, serve, keep, are_plain, arguments_of, paths_of, storage_for}
+use Rattle.ssi_arguments.specs.Clauses.Arguments.{Request, pipe, audit, order, script, serve, keep, seal, are_plain, arguments_of, paths_of, storage_for}
 use Rattle.ssi_arguments.specs.Clauses.CommandLine.{app_for, request_in, ssi_app}
 use Rattle.ssi_arguments.specs.Clauses.Storage.{storage_in}
 use Rattle.ssi_arguments.specs.declared.arguments.Manner.TheVariants.{InTurn, AtOnce, Aborting}
-use Rattle.ssi_arguments.specs.declared.arguments.LeftOpen.TheVariants.{Keep, Abort}
 use Rattle.ssi_arguments.specs.declared.storage.Storage.{Storage}
 use Rattle.ssi_arguments.specs.declared.storage.Storage.TheVariants.{Files, Folder}
 use Rattle.ssi_arguments.proofs.CommandWalks.{folder_parser, parser, top_walk}
@@ -31,15 +30,16 @@ takes_with Files arguments r k p e = (
   ap₂ (λ a b. a && b) (simple Files) (ap (built_takes parser nothing_held) e ∙ taken r k p),
   ap (λ ws. request_in Files (entered parser (top_walk ws).stopped)) e ∙ found r k p,
 )
-takes_with Folder arguments (keep l s f) k p e = (
-  ap₂ (λ a b. a && b) (simple Folder) (ap (built_takes folder_parser nothing_held) e ∙ taken_folder l s f p),
-  ap (λ ws. request_in Folder (entered folder_parser (top_walk ws).stopped)) e ∙ found_folder l s f p,
+takes_with Folder arguments (keep l g s f) k p e = (
+  ap₂ (λ a b. a && b) (simple Folder) (ap (built_takes folder_parser nothing_held) e ∙ taken_folder l g s f p),
+  ap (λ ws. request_in Folder (entered folder_parser (top_walk ws).stopped)) e ∙ found_folder l g s f p,
 )
 takes_with Folder arguments pipe k p e = absurd (cc k)
 takes_with Folder arguments (audit h c) k p e = absurd (cc k)
 takes_with Folder arguments (order h) k p e = absurd (cc k)
 takes_with Folder arguments (script h c) k p e = absurd (cc k)
 takes_with Folder arguments (serve m s h c) k p e = absurd (cc k)
+takes_with Folder arguments (seal f) k p e = absurd (cc k)
 
 -- the arguments of a request are taken, and the request is found in them
 pub takes_request : (arguments : List Text) (r : Request) → are_plain (paths_of r) ≡ true → drop 1 arguments ≡ arguments_of r
@@ -57,5 +57,5 @@ plain_paths (script h c) p = p
 plain_paths (serve InTurn s h c) p = p
 plain_paths (serve AtOnce s h c) p = absurd (cc p)
 plain_paths (serve Aborting s h c) p = absurd (cc p)
-plain_paths (keep Keep s f) p = absurd (cc p)
-plain_paths (keep Abort s f) p = absurd (cc p)
+plain_paths (keep l g s f) p = absurd (cc p)
+plain_paths (seal f) p = p

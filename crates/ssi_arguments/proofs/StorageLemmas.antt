@@ -5,9 +5,8 @@ use Rattle.std.specs.Prelude.{◌||◌, if◌then◌else◌}
 use Rattle.std.specs.Str.{bytes_eq}
 use Rattle.std.proofs.lemmas.Bool.{and_parts, and_right, cases_Bool, eqb-false, not-true}
 use Rattle.std.proofs.lemmas.Slice.Eq.{bytes_eq-Decides}
-use Rattle.ssi_arguments.specs.Clauses.Arguments.{Request, pipe, audit, order, script, serve, keep, are_plain, is_plain, arguments_of, paths_of, storage_for}
+use Rattle.ssi_arguments.specs.Clauses.Arguments.{Request, pipe, audit, order, script, serve, keep, seal, are_plain, is_plain, arguments_of, paths_of, storage_for}
 use Rattle.ssi_arguments.specs.Clauses.Storage.{has_option, is_option, storage_in}
-use Rattle.ssi_arguments.specs.declared.arguments.LeftOpen.TheVariants.{Keep, Abort}
 use Rattle.ssi_arguments.specs.declared.arguments.Manner.TheVariants.{InTurn, AtOnce, Aborting}
 use Rattle.ssi_arguments.specs.declared.storage.Storage.TheVariants.{Files, Folder}
 use Rattle.ssi_arguments.proofs.OptionNames.{before_first-begins}
@@ -51,5 +50,5 @@ storage_in-arguments (script h c) p = refl
 storage_in-arguments (serve InTurn s h c) p = ap (λ b. if b then Folder else Files) (no_data (s ∷ h ∷ c ∷ []) p)
 storage_in-arguments (serve AtOnce s h c) p = ap (λ b. if b then Folder else Files) (no_data (s ∷ h ∷ c ∷ []) p)
 storage_in-arguments (serve Aborting s h c) p = ap (λ b. if b then Folder else Files) (no_data (s ∷ h ∷ c ∷ []) p)
-storage_in-arguments (keep Keep s f) p = refl
-storage_in-arguments (keep Abort s f) p = refl
+storage_in-arguments (keep l g s f) p = refl
+storage_in-arguments (seal f) p = refl

@@ -7,13 +7,13 @@ use Rattle.clap.specs.Walk.{Held, Text, Walk, value, arg_by_index, finished, not
 use Rattle.clap.specs.Simple.{Shape, entered}
 use Rattle.clap.specs.Takes.{built_takes, default_passes, is_valid, level_passes, settle_passes, step_passes, turn_passes, walk_passes}
 use Rattle.clap.proofs.OnLiterals.{clap_on_literals}
-use Rattle.ssi_arguments.specs.Clauses.Arguments.{Request, pipe, audit, order, script, serve, keep, are_plain, is_plain, arguments_of, options_of, paths_of, storage_for}
+use Rattle.ssi_arguments.specs.Clauses.Arguments.{Request, pipe, audit, order, script, serve, keep, seal, are_plain, is_plain, arguments_of, options_of, paths_of, storage_for}
 use Rattle.ssi_arguments.specs.declared.arguments.Manner.{Manner}
 use Rattle.ssi_arguments.specs.declared.arguments.Manner.TheVariants.{InTurn, AtOnce, Aborting}
 use Rattle.ssi_arguments.specs.declared.storage.Storage.TheVariants.{Files}
 use Rattle.ssi_arguments.specs.Clauses.CommandLine.{request_in}
-use Rattle.ssi_arguments.proofs.CommandWalks.{audits, names, orders, pairs, parser, scripts, serves, top_walk}
-use Rattle.ssi_arguments.proofs.CommandWalks.{stops_at_audit, stops_at_order, stops_at_script, stops_at_serve}
+use Rattle.ssi_arguments.proofs.CommandWalks.{audits, names, orders, pairs, parser, scripts, seals, serves, top_walk}
+use Rattle.ssi_arguments.proofs.CommandWalks.{stops_at_audit, stops_at_order, stops_at_script, stops_at_seal, stops_at_serve}
 use Rattle.ssi_arguments.proofs.PlainArguments.{at, turn_passes-plain, walked-plain}
 
 -- ---- up to the name of the command
@@ -32,6 +32,10 @@ passes_to_audit h c = refl
 passes_to_order : (h : Text) → top_passes (arguments_of (order h)) ≡ true
 unfolding clap_on_literals
 passes_to_order h = refl
+
+passes_to_seal : (f : Text) → top_passes (arguments_of (seal f)) ≡ true
+unfolding clap_on_literals
+passes_to_seal f = refl
 
 passes_to_script : (h c : Text) → top_passes (arguments_of (script h c)) ≡ true
 unfolding clap_on_literals
@@ -106,6 +110,12 @@ unfolding walk_passes
 passes_order h p = ap₂ (λ a b. (a && true) && b)
     (turn_passes-plain [] nothing_held 1 orders h p refl)
     (ap (ends_well orders) (walk_one nothing_held orders h p))
+
+passes_seal : (f : Text) → is_plain f ≡ true → level_passes seals [] nothing_held (f ∷ []) false ≡ true
+unfolding walk_passes
+passes_seal f p = ap₂ (λ a b. (a && true) && b)
+    (turn_passes-plain [] nothing_held 1 seals f p refl)
+    (ap (ends_well seals) (walk_one nothing_held seals f p))
 
 passes_pair : (name h c : Text) → is_plain h ≡ true → is_plain c ≡ true
     → level_passes (pairs name) [] nothing_held (h ∷ c ∷ []) false ≡ true
@@ -232,7 +242,8 @@ taken (script h c) k p =
 taken (serve m s h c) k p =
     let plain = all_plain s h c p in
     rw (stops_at_serve (options_of m ++ s ∷ h ∷ c ∷ []), passes_serve m s h c plain.0 plain.1 plain.2, passes_to_serve m s h c) refl
-taken (keep l s f) k p = absurd (cc k)
+taken (keep l g s f) k p = absurd (cc k)
+taken (seal f) k p = rw (stops_at_seal (f ∷ []), passes_seal f (path_plain f p), passes_to_seal f) refl
 
 pub found : (r : Request) → storage_for r ≡ Files → are_plain (paths_of r) ≡ true
     → request_in Files (entered parser (top_walk (arguments_of r)).stopped) ≡ r
@@ -256,4 +267,7 @@ found (serve m s h c) k p =
     ∙ ap (λ w. request_in Files (Some (codes "serve", finished serves.rules w.held)))
     (walk_serve m s h c plain.0 plain.1 plain.2)
     ∙ found_serve m s h c
-found (keep l s f) k p = absurd (cc k)
+found (keep l g s f) k p = absurd (cc k)
+found (seal f) k p =
+    ap (λ stop. request_in Files (entered parser stop)) (stops_at_seal (f ∷ []))
+    ∙ ap (λ w. request_in Files (Some (codes "seal", finished seals.rules w.held))) (walk_one nothing_held seals f (path_plain f p))

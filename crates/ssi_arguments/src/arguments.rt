@@ -1,10 +1,10 @@
 //! The arguments of the program, and what they ask for.
 
-ghost use Rattle.std.specs.Prelude.{◌≡◌, ◌≢◌, ◌⊎◌, ℕ, List, [], ◌∷◌, ◌++◌, true, map, drop, codes, string_bytes, IfOk, IfErr, IsErr, IsErrAnd, MatchResult};
-ghost use Rattle.clap.specs.Words.{rows_of, found_of, kind_of, subcommand_rows_of, subcommand_of, fault_of};
+ghost use Rattle.std.specs.Prelude.{◌≡◌, ◌≢◌, ◌⊎◌, ℕ, List, [], ◌∷◌, ◌++◌, Option, option_map, true, map, drop, codes, string_bytes, IfOk, IfErr, IsErr, IsErrAnd, MatchResult};
+ghost use Rattle.clap.specs.Words.{rows_of, found_of, first_of, kind_of, subcommand_rows_of, subcommand_of, fault_of};
 ghost use Rattle.clap.specs.declared.error.kind.ErrorKind.TheVariants.{OutOfMemory, DisplayHelp, DisplayVersion};
 ghost use Rattle.ssi_arguments.specs.Clauses.CommandLine.{app_for, path_in, is_given, manner_in, left_open_in, request_in, request_named, request_served};
-ghost use Rattle.ssi_arguments.specs.Clauses.Arguments.{Request, request_of, storage_for, arguments_of, folder_options_of, paths_of, are_plain, IsRefusal};
+ghost use Rattle.ssi_arguments.specs.Clauses.Arguments.{Request, request_of, storage_for, arguments_of, folder_options_of, given, paths_of, are_plain, IsRefusal};
 ghost use Rattle.ssi_arguments.specs.Clauses.Storage.{has_option, storage_in};
 ghost use Rattle.ssi_arguments.specs.declared.arguments.LeftOpen.{LeftOpen};
 ghost use Rattle.ssi_arguments.specs.declared.storage.Storage.TheVariants.{Folder};
@@ -46,11 +46,17 @@ pub enum Task<'a> {
         certificate: &'a str,
         manner: Manner,
     },
-    /// To carry out the commands of the connections to this socket, all at once, on the store in this folder.
+    /// To carry out the commands of the connections to this socket, all at once, on the store in this folder, with segments of
+    /// this length, as it was given: [`segment_len`](crate::segment_len) reads it.
     Keep {
         socket: &'a str,
         folder: &'a str,
         left_open: LeftOpen,
+        segment: Option<&'a str>,
+    },
+    /// To certify the finished segments in this folder.
+    Seal {
+        folder: &'a str,
     },
 }
 
@@ -151,8 +157,9 @@ pub fn task_of<'a>(alloc: Global, arguments: &'a [String]) -> Result<Task<'a>, N
     ensures kept { let rest = drop 1 (map string_bytes arguments.entry.now) in
         IfOk result (λ task. storage_for (request_of task) ≡ storage_in rest) }
     ensures kept_alone { let rest = drop 1 (map string_bytes arguments.entry.now) in
-        (left_open : LeftOpen) (folder : List ℕ) (others : List (List ℕ)) → are_plain (folder ∷ others) ≡ true
-        → rest ≡ codes "serve" ∷ folder_options_of left_open folder ++ others
+        (left_open : LeftOpen) (segment : Option (List ℕ)) (folder : List ℕ) (others : List (List ℕ))
+        → are_plain (folder ∷ given segment ++ others) ≡ true
+        → rest ≡ codes "serve" ∷ folder_options_of left_open segment folder ++ others
         → IfOk result (λ task. rest ≡ arguments_of (request_of task)) }
     ensures kept_at_once { let rest = drop 1 (map string_bytes arguments.entry.now) in
         storage_in rest ≡ Folder → has_option (codes "--concurrent") rest ≡ true → IsErr result }
@@ -187,6 +194,9 @@ fn task_named<'a>(storage: Storage, name: &str, given: &ArgMatches<'a>) -> Task<
             history: path(given, "HISTORY"),
             certificate: path(given, "CERTIFICATE"),
         },
+        "seal" => Task::Seal {
+            folder: path(given, "DIR"),
+        },
         // `serve`, the only other one
         _ => task_served(storage, given),
     }
@@ -206,8 +216,16 @@ fn task_served<'a>(storage: Storage, given: &ArgMatches<'a>) -> Task<'a>
             socket: path(given, "SOCKET"),
             folder: path(given, "data"),
             left_open: what_is_left(given),
+            segment: text(given, "segment"),
         },
     }
+}
+
+/// Returns the value of an option, if it has one.
+fn text<'a>(given: &ArgMatches<'a>, name: &str) -> Option<&'a str>
+    ensures { option_map (λ text. text.now) result ≡ first_of name.now (rows_of (found_of given.now)) }
+{
+    given.get_str(name)
 }
 
 // The parser has seen to it that each path is there.

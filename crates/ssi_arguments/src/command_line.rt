@@ -3,7 +3,7 @@
 ghost use Rattle.std.specs.Prelude.{◌≡◌, false, codes, IfOk};
 ghost use Rattle.clap.specs.Words.{App, app_of, new_app, rule_of, with_rule, with_subcommand};
 ghost use Rattle.clap.specs.declared.builder.command.Command.TheViews.{out-Command as fields_of};
-ghost use Rattle.ssi_arguments.specs.Clauses.CommandLine.{file_rule, flag_rule, value_rule, with_version, with_texts, audit_app, order_app, script_app, serve_app, files_app, folder_app, ssi_app};
+ghost use Rattle.ssi_arguments.specs.Clauses.CommandLine.{file_rule, flag_rule, value_rule, with_version, with_texts, audit_app, order_app, script_app, serve_app, files_app, folder_app, seal_app, ssi_app};
 
 use crate::help;
 use crate::storage::Storage;
@@ -18,7 +18,8 @@ pub fn command_line<'a>(alloc: Global, storage: Storage) -> Result<Command<'a>, 
     let ssi = with_command(ssi, audit(alloc))?;
     let ssi = with_command(ssi, order(alloc))?;
     let ssi = with_command(ssi, script(alloc))?;
-    with_command(ssi, serve(alloc, storage))
+    let ssi = with_command(ssi, serve(alloc, storage))?;
+    with_command(ssi, seal(alloc))
 }
 
 /// Adds what was made, if there was memory to make it.
@@ -66,6 +67,14 @@ fn serve<'a>(alloc: Global, storage: Storage) -> Result<Command<'a>, AllocError>
     }
 }
 
+fn seal<'a>(alloc: Global) -> Result<Command<'a>, AllocError>
+    ensures app { IfOk result (λ c. app_of c ≡ seal_app) }
+    ensures local { IfOk result (λ c. (fields_of c).has_globals ≡ false) }
+{
+    let seal = bare(alloc, "seal", help::SEAL, help::SEAL_MORE);
+    with_file(alloc, seal, "DIR", help::SEALED)
+}
+
 // The option `--data` is here for the help: with it, `serve` has the other form.
 fn serve_with_files<'a>(alloc: Global) -> Result<Command<'a>, AllocError>
     ensures app { IfOk result (λ c. app_of c ≡ files_app) }
@@ -86,6 +95,7 @@ fn serve_with_folder<'a>(alloc: Global) -> Result<Command<'a>, AllocError>
     let serve = bare(alloc, "serve", help::SERVE, help::KEEP_MORE);
     let serve = with_file(alloc, serve, "SOCKET", help::SOCKET)?;
     let serve = with_flag(alloc, serve, "abort-on-close", help::KEEP_ABORT_ON_CLOSE)?;
+    let serve = with_segment(alloc, serve)?;
     with_data(alloc, serve, true)
 }
 
@@ -140,6 +150,14 @@ fn with_flag<'a>(
     ensures local { (fields_of command.entry).has_globals ≡ false → IfOk result (λ c. (fields_of c).has_globals ≡ false) }
 {
     command.arg(flag(alloc, name, help))
+}
+
+/// Adds the option `--segment`.
+fn with_segment<'a>(alloc: Global, command: Command<'a>) -> Result<Command<'a>, AllocError>
+    ensures app { IfOk result (λ c. app_of c ≡ with_rule (app_of command.entry) (value_rule (codes "segment") false)) }
+    ensures local { (fields_of command.entry).has_globals ≡ false → IfOk result (λ c. (fields_of c).has_globals ≡ false) }
+{
+    command.arg(value(alloc, "segment", "BYTES", help::SEGMENT))
 }
 
 /// Adds the option `--data`.

@@ -87,3 +87,19 @@ pub const KEEP_ABORT_ON_CLOSE: &str = "Abort the sessions of clients that leave"
 
 /// The option that names a folder.
 pub const DATA: &str = "The folder of the data; in place of both files";
+
+/// The option that says how long segments are.
+pub const SEGMENT: &str = "Begin the next log after so many; 65536 to 2^40";
+
+/// What `seal` does.
+pub const SEAL: &str = "Certifies what a store that keeps its data has done";
+
+/// What `seal` writes.
+pub const SEAL_MORE: &str = "\
+Writes a history and a certificate beside each segment in DIR but the last,
+and `yes` if each segment begins with what the one before ended with.
+
+docs/formats.md describes all texts, arguments and exit statuses.";
+
+/// The argument that names a folder to certify.
+pub const SEALED: &str = "The folder of the data; a server may use it";

@@ -4,6 +4,8 @@
 mod arguments;
 mod command_line;
 mod help;
+mod segments;
 mod storage;
 
 pub use arguments::{LeftOpen, Manner, NoTask, Task, given_arguments, task_of};
+pub use segments::{SEGMENT, segment_len};

@@ -20,7 +20,7 @@ use Rattle.ssi_hub.specs.Clauses.Runs.{IsTaken}
 use Rattle.ssi_hub.specs.Clauses.Serving.{IsServed}
 use Rattle.ssi_hub.specs.Mirror.{Stands, buffers_of, is_stopped}
 use Rattle.ssi_cli.specs.declared.closing.Closing.{Closing}
-use Rattle.ssi_cli.specs.declared.closing.Closing.TheVariants.{Ended, Broken, Memory}
+use Rattle.ssi_cli.specs.declared.closing.Closing.TheVariants.{Ended, Broken, Memory, Stopped}
 use Rattle.ssi_cli.specs.declared.peer.Input.{Input}
 use Rattle.ssi_cli.specs.declared.users.Users.{Users}
 use Rattle.ssi_cli.specs.Meaning.Users.{session_in, is_it, is_used, last_by, last_after}
@@ -116,6 +116,7 @@ closed_more t made later calls dropped Memory (inr (inr some)) =
     let both : length (lines_of t (later ++ made)) ≡ length (lines_of t made) + length (lines_of t later) =
     ap (λ (l : List (List ℕ)). length l) (lines_both t later made) ∙ length-append (lines_of t made) (lines_of t later) in
     inr (inr (omega (arith, some, both)))
+closed_more t made later calls dropped Stopped is = is
 
 left_more : {A : Type 0} (t : ℕ) (made later calls : List Call) (dropped : List ℕ) (r : Result A Closing)
     → IsLeft t later (made ++ calls) dropped r → IsLeft t (later ++ made) calls dropped r
@@ -144,6 +145,7 @@ none_ok P (Err e) none = tt
 memory_begun : (A : Type 0) (t : ℕ) (made : List Call) (why : Closing) → why ≡ Memory → HasBegun {A = A} t made (Err why)
 memory_begun A t made Ended is = cc
 memory_begun A t made Broken is = cc
+memory_begun A t made Stopped is = cc
 memory_begun A t made Memory is = tt
 
 begun_later : {A : Type 0} (t : ℕ) (made later : List Call) (r : Result A Closing)
@@ -161,6 +163,8 @@ begun_later t made later r some =
     more (Err Ended) (inr some) both = omega (arith, some, both)
     more (Err Broken) (inl some) both = omega (arith, some, both)
     more (Err Broken) (inr some) both = omega (arith, some, both)
+    more (Err Stopped) (inl some) both = omega (arith, some, both)
+    more (Err Stopped) (inr some) both = omega (arith, some, both)
     more (Err Memory) some both = tt
 
 begun_both : {A : Type 0} (t : ℕ) (made later : List Call) (r : Result A Closing) (First Then : Type 0) → First ⊎ Then

@@ -1,16 +1,11 @@
 -- Which session a line is of.
-use Rattle.std.proofs.Common.{◌≡◌, ℕ, ◌+◌, ◌≤◌, ◌<◌, List, [], ◌∷◌, Bool, true, false, cond, Option, Some, None, refl, sym, ap, subst, ◌∙◌, length, arith}
-use Rattle.std.specs.Prelude.{nat_le, nat_lt, nat_eq, ◌&&◌, codes, decimal}
+use Rattle.std.proofs.Common.{◌≡◌, ℕ, ◌≤◌, ◌<◌, List, Bool, true, false, cond, Option, Some, None, refl, sym, ap, subst, ◌∙◌, length, arith}
+use Rattle.std.specs.Prelude.{nat_le, nat_eq}
 use Rattle.std.specs.Cmp.Lexicographic.{pointwise, bytes_decides}
-use Rattle.std.specs.List.{list_all}
-use Rattle.std.proofs.lemmas.Bool.{leb-true, le-leb, and_parts}
+use Rattle.std.proofs.lemmas.Bool.{le-leb}
 use Rattle.std.proofs.lemmas.Option.{same_Some, none-some}
-use Rattle.std.proofs.lemmas.List.{length-append}
-use Rattle.std.proofs.lemmas.Fmt.{length-decimal-le}
-use Rattle.adya_keys.specs.Meaning.Keys.{is_text, is_key_byte, is_value_byte, IsMod}
-use Rattle.ssi_store.specs.Meaning.Sessions.{is_session_byte}
-use Rattle.ssi_store.specs.Meaning.Courses.{Command, Begin, Get, Put, Del, Scan, ScanFirst, Commit, Abort, Collect, Stat}
-use Rattle.ssi_line.specs.Meaning.Spelling.{Line, Do, Stop, Dump, IsCommand, IsLineOf, IsNoLine, command_text, line_text, spaced}
+use Rattle.ssi_store.specs.Meaning.Courses.{Command}
+use Rattle.ssi_line.specs.Meaning.Spelling.{Line, Do, Stop, Dump, IsLineOf, IsNoLine, line_text}
 use Rattle.ssi_line.specs.Clauses.Reading.{IsOnlyLineOf}
 use Rattle.ssi_line.specs.Clauses.Answers.{kept}
 use Rattle.ssi_line.specs.Meaning.Steps.{Step, Given, Dumped, NotDumped, Stopped, NotRead, TooLong, IsStep}

@@ -4,6 +4,7 @@ pub mod Status
 pub mod Fault
 pub mod Peers
 pub mod Turns
+pub mod Parting
 pub mod Leaving
 pub mod Serving
 pub mod Connections

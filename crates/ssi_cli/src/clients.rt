@@ -7,8 +7,9 @@ ghost use Rattle.ssi_cli.specs.Clauses.Serving.{aborts};
 ghost use Rattle.ssi_cli.specs.Machinery.HubRuns.{WasCalled, HasRun};
 
 use crate::AtClose;
+use crate::parting::part;
 use crate::peers::{MOST_CLIENTS, Peers};
-use crate::turns::{send, turn};
+use crate::turns::turn;
 use crate::users::{Users, users_for};
 use mio::event::Event;
 use mio::net::{UnixListener, UnixStream};
@@ -180,17 +181,17 @@ impl Clients {
         self.peers.end_turn(index, due, open);
     }
 
-    /// Writes to the connections what they take at once.
-    pub(crate) fn write_all(&mut self)
+    /// Ends all connections, since the run was stopped: writes what they take at once, and closes them.
+    pub(crate) fn part_all(&mut self)
         ensures called { WasCalled self.old.hub self.new.hub }
         ensures table { is_some self.new.users ≡ is_some self.old.users }
     {
         for index in 0..self.peers.len() {
-            self.write_at(index);
+            self.part_at(index);
         }
     }
 
-    fn write_at(&mut self, index: usize)
+    fn part_at(&mut self, index: usize)
         ensures called { WasCalled self.old.hub self.new.hub }
         ensures table { is_some self.new.users ≡ is_some self.old.users }
     {
@@ -200,6 +201,6 @@ impl Clients {
         let Some(peer) = self.peers.peer_at(index) else {
             return;
         };
-        let _ = send(token, peer, &mut self.hub);
+        let _ = part(token, peer, &mut self.hub);
     }
 }

@@ -9,4 +9,6 @@ pub enum Closing {
     Broken,
     /// Memory can't hold what it sent, or what it is to get.
     Memory,
+    /// The run was stopped, and replies are unsent that it doesn't take at once.
+    Stopped,
 }

@@ -11,6 +11,7 @@ mod fault;
 pub mod laws;
 mod leaving;
 mod listener;
+mod parting;
 mod peer;
 mod peers;
 mod runs;
@@ -29,6 +30,7 @@ pub use closing::Closing;
 pub use fault::Fault;
 pub use leaving::abort_line;
 pub use listener::Listener;
+pub use parting::part;
 pub use peer::{Input, Peer, Ready, Sent};
 pub use peers::{MOST_CLIENTS, Peers, ROOM, listen};
 pub use runs::{

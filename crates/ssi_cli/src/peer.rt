@@ -2,7 +2,7 @@
 
 ghost use Rattle.std.specs.Prelude.{◌≡◌, ◌≢◌, ◌≤◌, ◌<◌, ◌⊎◌, ℕ, true, false, length, take};
 ghost use Rattle.std.specs.Io.KnownBytes.{Consumes, Appends, Keeps, IsAtEnd};
-ghost use Rattle.ssi_cli.specs.Clauses.Peers.{HasWritten};
+ghost use Rattle.ssi_cli.specs.Clauses.Peers.{HasWritten, IsTaken};
 ghost use Rattle.ssi_cli.specs.Mirror.{stream_of, input_of, may_read, is_due};
 
 use crate::stream::Stream;
@@ -174,6 +174,8 @@ impl<S: Stream> Peer<S> {
         ensures input { input_of self.new ≡ input_of self.old }
         ensures steady { S.is_steady (stream_of self.old) ≡ true → 0 < length bytes.now
             → (S.is_steady (stream_of self.new) ≡ true) × ((count : ℕ) × (result ≡ Sent.Bytes count) × (0 < count)) }
+        ensures taken { S.never_waits (stream_of self.old) ≡ true → 0 < length bytes.now
+            → (S.never_waits (stream_of self.new) ≡ true) × IsTaken result }
     {
         match self.stream.push(bytes) {
             Ok(0) => Sent::Never,

@@ -132,7 +132,7 @@ fn serve_clients<C: Chains + Drop, M: Marks + Drop>(
         clients.round(alloc, events, store, &mut room);
         clients.accept(alloc, listener, poll.registry());
         if clients.is_stopped() {
-            clients.write_all();
+            clients.part_all();
             return Served::Stopped;
         }
     }

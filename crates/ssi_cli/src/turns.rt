@@ -297,6 +297,7 @@ pub(crate) fn send<S: Stream>(token: u64, peer: &mut Peer<S>, hub: &mut Hub) -> 
         × Exchanged S.remaining S.contents token (stream_of peer.old) (stream_of peer.new) earlier [])) }
     ensures steady { IsErr result → S.is_steady (stream_of peer.old) ≡ true → ⊥ }
     ensures all { OnOk result (S.is_steady (stream_of peer.old) ≡ true → NoneUnsent (buffers_of hub.new token)) }
+    ensures taken { OnOk result (S.never_waits (stream_of peer.old) ≡ true → NoneUnsent (buffers_of hub.new token)) }
     ensures input { input_of peer.new ≡ input_of peer.old }
     ensures apart { S.remaining (stream_of peer.new) ≡ S.remaining (stream_of peer.old) }
 {

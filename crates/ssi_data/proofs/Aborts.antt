@@ -1,15 +1,14 @@
--- Aborts of sessions whose last user is gone.
+-- Aborts of sessions whose last user is gone, and of those that have a transaction.
 use Rattle.std.proofs.Common.{◌≡◌, ℕ, ◌<◌, Bool, true, false, cond, List, [], ◌∷◌, ◌++◌, Option, Some, None, refl, sym, ap, subst, ◌∙◌, append_assoc, inl, inr, Result, Ok, Err, IfOk, arith}
-use Rattle.std.specs.Prelude.{◌==◌, not, ◌&&◌, ◌||◌, nat_eq, is_err, is_some, IsTrue, reverse, MatchResult, MatchOption}
-use Rattle.std.specs.List.{AllByRecursion, Contains}
+use Rattle.std.specs.Prelude.{◌==◌, not, ◌&&◌, ◌||◌, nat_eq, is_err, is_some, IsTrue, MatchResult, MatchOption}
+use Rattle.std.specs.List.{AllByRecursion}
 use Rattle.std.specs.Cmp.Lexicographic.{pointwise}
 use Rattle.std.proofs.lemmas.Bool.{eq-eqb, false≢true}
-use Rattle.std.proofs.lemmas.List.{reverse-append}
 use Rattle.std.proofs.lemmas.Option.{none-some}
 use Rattle.sqlite_disk.specs.declared.Disk.{Ghosts}
 use Rattle.ssi_versions.specs.declared.chains.Chains.{Ghosts as HeldBy}
 use Rattle.ssi_reads.specs.declared.marks.Marks.{Ghosts as MarkedBy}
-use Rattle.ssi_store.specs.Meaning.Courses.{Course, Abort}
+use Rattle.ssi_store.specs.Meaning.Courses.{Course, Abort, txn_in}
 use Rattle.ssi_store.specs.declared.store.Store.{Store}
 use Rattle.ssi_line.specs.Meaning.Spelling.{command_text}
 use Rattle.ssi_line.specs.Meaning.Steps.{Step}
@@ -18,10 +17,12 @@ use Rattle.ssi_hub.specs.Clauses.Calls.{Call, Opened, Received, Ran, Closed, tok
 use Rattle.ssi_hub.specs.Clauses.Outcomes.{lost_by}
 use Rattle.ssi_hub.specs.Mirror.{next_token}
 use Rattle.ssi_durable.specs.declared.server.Server.{Server}
-use Rattle.ssi_durable.specs.Mirror.Servers.{Serves, HasStepped, hub_of}
+use Rattle.ssi_durable.specs.Clauses.Serving.{Began}
+use Rattle.ssi_durable.specs.Mirror.Servers.{Serves, HasStepped, hub_of, store_of}
 use Rattle.ssi_cli.specs.Clauses.Leaving.{IsAbort, abort_calls}
 use Rattle.ssi_data.specs.Clauses.Calls.{Makes}
-use Rattle.ssi_data.specs.Clauses.Leaving.{HasAborted, HasAbortedAll, HasTried}
+use Rattle.ssi_data.specs.Clauses.Leaving.{HasAborted, HasTried}
+use Rattle.ssi_data.specs.Clauses.Aborting.{HadTransaction, HasAbortedOpen, HasCarriedOutAborts}
 
 own : (t : ℕ) → (t == t) ≡ true
 own t = eq-eqb t t refl
@@ -52,42 +53,39 @@ run_closed lost t lines steps calls opened = by_loss lost
         ap (with_call (Closed t)) once
         ∙ ap (λ o. cond o (Closed t ∷ Closed t ∷ Ran t lines steps ∷ calls) (Closed t ∷ Ran t lines steps ∷ calls)) gone
 
-last_first : (sessions : List (List ℕ)) (session : List ℕ) → reverse (sessions ++ (session ∷ [])) ≡ session ∷ reverse sessions
-last_first sessions session = reverse-append sessions (session ∷ [])
-
 module _ {C M D : Type 0} {g : HeldBy C} {h : MarkedBy M} {disk : Ghosts D} (is_at : Store C M g h → Course → Type 0) where
   -- the result says that nothing was carried out
   pub not_done : {E : Type 0} (old new : Server C M D g h disk) (session : List ℕ) (r : Result Bool E)
       → IfOk r (λ done. IsTrue done → ⊥) → Makes is_at old new (λ calls made. IsAbort session made calls)
       → Makes is_at old new (λ calls made. HasTried session r calls made)
-  not_done old new session (Ok done) none makes = λ n lines calls s.
-      let (made, serves, is) = makes n lines calls s in
+  not_done old new session (Ok done) none makes = λ n began calls s.
+      let (made, serves, is) = makes n began calls s in
       (made, serves, record { abort = is; done = λ h. absurd (none h) })
-  not_done old new session (Err e) none makes = λ n lines calls s.
-      let (made, serves, is) = makes n lines calls s in (made, serves, record { abort = is; done = tt })
+  not_done old new session (Err e) none makes = λ n began calls s.
+      let (made, serves, is) = makes n began calls s in (made, serves, record { abort = is; done = tt })
 
   -- a session of which nothing is carried out
   pub none_opened : (old new : Server C M D g h disk) (session : List ℕ)
-      → ((n : ℕ) (lines : List (List ℕ)) (calls : List Call) → Serves is_at n lines old calls → Serves is_at n lines new calls)
+      → ((n : ℕ) (began : Began) (calls : List Call) → Serves is_at n began old calls → Serves is_at n began new calls)
       → Makes is_at old new (λ calls made. IsAbort session made calls)
-  none_opened old new session same = λ n lines calls s. (
+  none_opened old new session same = λ n began calls s. (
     [],
-    same n lines calls s,
+    same n began calls s,
     record { token = next_token (hub_of old); new = s.stands.given; own = tt; sent = inl refl },
   )
 
   -- it was opened, and closed before anything was carried out
   pub only_opened : (old opened new : Server C M D g h disk) (session : List ℕ) (t : ℕ) → t ≡ next_token (hub_of old)
-      → ((n : ℕ) (lines : List (List ℕ)) (calls : List Call) → Serves is_at n lines old calls
-      → Serves is_at n lines opened (Opened t ∷ calls))
-      → ((n : ℕ) (lines : List (List ℕ)) (calls : List Call) → Serves is_at n lines opened calls
-      → Serves is_at n lines new (with_call (Closed t) calls))
+      → ((n : ℕ) (began : Began) (calls : List Call) → Serves is_at n began old calls
+      → Serves is_at n began opened (Opened t ∷ calls))
+      → ((n : ℕ) (began : Began) (calls : List Call) → Serves is_at n began opened calls
+      → Serves is_at n began new (with_call (Closed t) calls))
       → Makes is_at old new (λ calls made. IsAbort session made calls)
-  only_opened old opened new session t is opens closes = λ n lines calls s. (
+  only_opened old opened new session t is opens closes = λ n began calls s. (
     Closed t ∷ Opened t ∷ [],
-    subst (λ (l : List Call). Serves is_at n lines new l)
+    subst (λ (l : List Call). Serves is_at n began new l)
         (ap (λ o. cond o (Closed t ∷ Opened t ∷ calls) (Opened t ∷ calls)) (open_now t calls))
-        (closes n lines (Opened t ∷ calls) (opens n lines calls s)),
+        (closes n began (Opened t ∷ calls) (opens n began calls s)),
     record {
       token = t;
       new = subst (λ m. AllByRecursion (λ c. token_of c < m) calls) (sym is) s.stands.given;
@@ -98,36 +96,36 @@ module _ {C M D : Type 0} {g : HeldBy C} {h : MarkedBy M} {disk : Ghosts D} (is_
 
   module _ (old opened sent stepped new : Server C M D g h disk) (session line : List ℕ) (t : ℕ)
       (line_is : line ≡ command_text (Abort session) ++ (10 ∷ [])) (is : t ≡ next_token (hub_of old))
-      (opens : (n : ℕ) (lines : List (List ℕ)) (calls : List Call) → Serves is_at n lines old calls
-      → Serves is_at n lines opened (Opened t ∷ calls))
-      (sends : (n : ℕ) (lines : List (List ℕ)) (calls : List Call) → Serves is_at n lines opened calls
-      → Serves is_at n lines sent (with_call (Received t line) calls))
-      (closes : (n : ℕ) (lines : List (List ℕ)) (calls : List Call) → Serves is_at n lines stepped calls
-      → Serves is_at n lines new (with_call (Closed t) calls)) where
-    received : (n : ℕ) (lines : List (List ℕ)) (calls : List Call) → Serves is_at n lines old calls
-        → Serves is_at n lines sent (Received t line ∷ Opened t ∷ calls)
-    received n lines calls s =
-        subst (λ (l : List Call). Serves is_at n lines sent l)
+      (opens : (n : ℕ) (began : Began) (calls : List Call) → Serves is_at n began old calls
+      → Serves is_at n began opened (Opened t ∷ calls))
+      (sends : (n : ℕ) (began : Began) (calls : List Call) → Serves is_at n began opened calls
+      → Serves is_at n began sent (with_call (Received t line) calls))
+      (closes : (n : ℕ) (began : Began) (calls : List Call) → Serves is_at n began stepped calls
+      → Serves is_at n began new (with_call (Closed t) calls)) where
+    received : (n : ℕ) (began : Began) (calls : List Call) → Serves is_at n began old calls
+        → Serves is_at n began sent (Received t line ∷ Opened t ∷ calls)
+    received n began calls s =
+        subst (λ (l : List Call). Serves is_at n began sent l)
         (ap (λ o. cond o (Received t line ∷ Opened t ∷ calls) (Opened t ∷ calls)) (open_now t calls))
-        (sends n lines (Opened t ∷ calls) (opens n lines calls s))
+        (sends n began (Opened t ∷ calls) (opens n began calls s))
 
-    new_here : (n : ℕ) (lines : List (List ℕ)) (calls : List Call) → Serves is_at n lines old calls
+    new_here : (n : ℕ) (began : Began) (calls : List Call) → Serves is_at n began old calls
         → AllByRecursion (λ c. token_of c < t) calls
-    new_here n lines calls s = subst (λ m. AllByRecursion (λ c. token_of c < m) calls) (sym is) s.stands.given
+    new_here n began calls s = subst (λ m. AllByRecursion (λ c. token_of c < m) calls) (sym is) s.stands.given
 
     -- nothing was carried out
-    pub sent_only : ((n : ℕ) (lines : List (List ℕ)) (calls : List Call) → Serves is_at n lines sent calls
-        → Serves is_at n lines stepped calls)
+    pub sent_only : ((n : ℕ) (began : Began) (calls : List Call) → Serves is_at n began sent calls
+        → Serves is_at n began stepped calls)
         → Makes is_at old new (λ calls made. IsAbort session made calls)
-    sent_only same = λ n lines calls s. (
+    sent_only same = λ n began calls s. (
       Closed t ∷ Received t line ∷ Opened t ∷ [],
-      subst (λ (l : List Call). Serves is_at n lines new l)
+      subst (λ (l : List Call). Serves is_at n began new l)
           (ap (λ o. cond o (Closed t ∷ Received t line ∷ Opened t ∷ calls) (Received t line ∷ Opened t ∷ calls)) (open_now t calls))
-          (closes n lines (Received t line ∷ Opened t ∷ calls)
-          (same n lines (Received t line ∷ Opened t ∷ calls) (received n lines calls s))),
+          (closes n began (Received t line ∷ Opened t ∷ calls)
+          (same n began (Received t line ∷ Opened t ∷ calls) (received n began calls s))),
       record {
         token = t;
-        new = new_here n lines calls s;
+        new = new_here n began calls s;
         own = (refl, (refl, (refl, tt)));
         sent = inr (ap (λ (o : Bool). cond o line []) (own t) ∙ line_is);
       },
@@ -135,20 +133,20 @@ module _ {C M D : Type 0} {g : HeldBy C} {h : MarkedBy M} {disk : Ghosts D} (is_
 
     -- its line was carried out
     pub carried_out : (carried : CarriedLine)
-        → ((n : ℕ) (lines : List (List ℕ)) (calls : List Call) → Serves is_at n lines sent calls
-        → HasStepped is_at n lines t calls sent stepped carried)
+        → ((n : ℕ) (began : Began) (calls : List Call) → Serves is_at n began sent calls
+        → HasStepped is_at n began t calls sent stepped carried)
         → {E : Type 0} {done : Bool} → Makes is_at old new (λ calls made. HasTried {E = E} session (Ok done) calls made)
-    carried_out carried steps = λ n lines calls s.
+    carried_out carried steps = λ n began calls s.
         let before = Received t line ∷ Opened t ∷ calls in
-        let (text, step, made, serves) = steps n lines before (received n lines calls s) in (
+        let (text, step, made, serves) = steps n began before (received n began calls s) in (
           Closed t ∷ Ran t (text ∷ []) (step ∷ []) ∷ Received t line ∷ Opened t ∷ [],
-          subst (λ (l : List Call). Serves is_at n lines new l)
+          subst (λ (l : List Call). Serves is_at n began new l)
               (run_closed (lost_by carried.outcome) t (text ∷ []) (step ∷ []) before (open_now t calls))
-              (closes n lines (with_run (lost_by carried.outcome) t (text ∷ []) (step ∷ []) before) serves),
+              (closes n began (with_run (lost_by carried.outcome) t (text ∷ []) (step ∷ []) before) serves),
           record {
             abort = record {
               token = t;
-              new = new_here n lines calls s;
+              new = new_here n began calls s;
               own = (refl, (refl, (refl, (refl, tt))));
               sent = inr (ap (λ (o : Bool). cond o line []) (own t) ∙ line_is);
             };
@@ -158,8 +156,8 @@ module _ {C M D : Type 0} {g : HeldBy C} {h : MarkedBy M} {disk : Ghosts D} (is_
 
     -- its line was carried out, if it might be
     pub carried_maybe : (E : Type 0) (o : Option CarriedLine) (done : Bool) → done ≡ is_some o
-        → ((n : ℕ) (lines : List (List ℕ)) (calls : List Call) → Serves is_at n lines sent calls
-        → MatchOption o (Serves is_at n lines stepped calls) (λ carried. HasStepped is_at n lines t calls sent stepped carried))
+        → ((n : ℕ) (began : Began) (calls : List Call) → Serves is_at n began sent calls
+        → MatchOption o (Serves is_at n began stepped calls) (λ carried. HasStepped is_at n began t calls sent stepped carried))
         → Makes is_at old new (λ calls made. HasTried {E = E} session (Ok done) calls made)
     carried_maybe E None done is serves =
         not_done old new session (Ok done) (λ h. absurd (false≢true (sym is ∙ h))) (sent_only serves)
@@ -168,61 +166,80 @@ module _ {C M D : Type 0} {g : HeldBy C} {h : MarkedBy M} {disk : Ghosts D} (is_
   -- ---- one abort after the other
 
   pub none_aborted : (May : List ℕ → Type 0) (server : Server C M D g h disk) → HasAborted is_at May server server
-  none_aborted May server = λ n lines calls s. ([], s, tt)
+  none_aborted May server = λ n began calls s. ([], s, tt)
 
   pub one_more : {E : Type 0} (May : List ℕ → Type 0) (old mid new : Server C M D g h disk) (session : List ℕ)
       (r : Result Bool E) → May session → HasAborted is_at May old mid
       → Makes is_at mid new (λ calls made. HasTried session r calls made) → HasAborted is_at May old new
-  one_more May old mid new session r may first then = λ n lines calls s.
-      let (rest, serves, are) = first n lines calls s in
-      let (made, now, is) = then n lines (abort_calls rest ++ calls) serves in (
+  one_more May old mid new session r may first then = λ n began calls s.
+      let (rest, serves, are) = first n began calls s in
+      let (made, now, is) = then n began (abort_calls rest ++ calls) serves in (
         (session, made) ∷ rest,
-        subst (λ (l : List Call). Serves is_at n lines new l) (sym (append_assoc made (abort_calls rest) calls)) now,
+        subst (λ (l : List Call). Serves is_at n began new l) (sym (append_assoc made (abort_calls rest) calls)) now,
         (may, is.abort, are),
       )
 
-  -- the same by another name of the sessions
-  pub aborted_keys : (sessions keys : List (List ℕ)) (old new : Server C M D g h disk) → sessions ≡ keys
-      → HasAborted is_at (Contains sessions) old new → HasAborted is_at (Contains keys) old new
-  aborted_keys sessions keys old new same has =
-      subst (λ (l : List (List ℕ)). HasAborted is_at (Contains l) old new) same has
+  -- ---- one abort of an open session after the other
 
-  -- and nothing was done since that calls show
-  pub aborted_still : (May : List ℕ → Type 0) (old mid new : Server C M D g h disk) → HasAborted is_at May old mid
-      → ((n : ℕ) (lines : List (List ℕ)) (calls : List Call) → Serves is_at n lines mid calls → Serves is_at n lines new calls)
-      → HasAborted is_at May old new
-  aborted_still May old mid new has same = λ n lines calls s.
-      let (list, serves, are) = has n lines calls s in (list, same n lines (abort_calls list ++ calls) serves, are)
+  -- a session that each course has open for which the store stands had a transaction
+  had_one : (n : ℕ) (began : Began) (calls : List Call) (server : Server C M D g h disk) (session : List ℕ)
+      → ((c : Course) → is_at (store_of server) c → is_some (txn_in session c) ≡ true) → Serves is_at n began server calls
+      → HadTransaction began calls session
+  had_one n began calls server session one s = record {
+    course = s.gone.end;
+    come = record {
+      since = s.since;
+      parts = s.parts;
+      start = s.gone.start;
+      replayed = s.gone.replayed;
+      led = s.gone.led;
+    };
+    had = one s.gone.end s.gone.at;
+  }
 
-  pub all_still : (sessions keys : List (List ℕ)) (old mid new : Server C M D g h disk) → sessions ≡ keys
-      → HasAbortedAll is_at sessions old mid
-      → ((n : ℕ) (lines : List (List ℕ)) (calls : List Call) → Serves is_at n lines mid calls → Serves is_at n lines new calls)
-      → HasAbortedAll is_at keys old new
-  all_still sessions keys old mid new named has same = λ n lines calls s.
-      let (list, serves, are, by_name, done) = has n lines calls s in (
-        list,
-        same n lines (abort_calls list ++ calls) serves,
-        are,
-        by_name ∙ ap (λ (l : List (List ℕ)). reverse l) named,
-        done,
+  pub none_carried_out : (server : Server C M D g h disk) → HasCarriedOutAborts is_at server server
+  none_carried_out server = λ n began calls s. ([], s, tt, tt)
+
+  pub carried_out_aborts : (old new : Server C M D g h disk) → HasCarriedOutAborts is_at old new → HasAbortedOpen is_at old new
+  carried_out_aborts old new has = λ n began calls s.
+      let (list, serves, are, done) = has n began calls s in (list, serves, are)
+
+  pub one_more_open : {E : Type 0} (old mid new : Server C M D g h disk) (session : List ℕ) (r : Result Bool E)
+      → ((c : Course) → is_at (store_of mid) c → is_some (txn_in session c) ≡ true) → HasCarriedOutAborts is_at old mid
+      → Makes is_at mid new (λ calls made. HasTried session r calls made) → HasAbortedOpen is_at old new
+  one_more_open old mid new session r one first then = λ n began calls s.
+      let (rest, serves, are, done) = first n began calls s in
+      let (made, now, is) = then n began (abort_calls rest ++ calls) serves in (
+        (session, made) ∷ rest,
+        subst (λ (l : List Call). Serves is_at n began new l) (sym (append_assoc made (abort_calls rest) calls)) now,
+        (had_one n began (abort_calls rest ++ calls) mid session one serves, is.abort, are),
       )
 
-  pub none_of_all : (server : Server C M D g h disk) → HasAbortedAll is_at [] server server
-  none_of_all server = λ n lines calls s. ([], s, tt, refl, tt)
-
-  pub one_more_of_all : {E : Type 0} (sessions : List (List ℕ)) (session : List ℕ) (old mid new : Server C M D g h disk)
-      → HasAbortedAll is_at sessions old mid
-      → Makes is_at mid new (λ calls made. HasTried {E = E} session (Ok true) calls made)
-      → HasAbortedAll is_at (sessions ++ (session ∷ [])) old new
-  one_more_of_all sessions session old mid new first then = λ n lines calls s.
-      let (rest, serves, are, named, done) = first n lines calls s in
-      let (made, now, is) = then n lines (abort_calls rest ++ calls) serves in (
+  pub one_more_carried_out : {E : Type 0} (old mid new : Server C M D g h disk) (session : List ℕ)
+      → ((c : Course) → is_at (store_of mid) c → is_some (txn_in session c) ≡ true) → HasCarriedOutAborts is_at old mid
+      → Makes is_at mid new (λ calls made. HasTried {E = E} session (Ok true) calls made) → HasCarriedOutAborts is_at old new
+  one_more_carried_out old mid new session one first then = λ n began calls s.
+      let (rest, serves, are, done) = first n began calls s in
+      let (made, now, is) = then n began (abort_calls rest ++ calls) serves in (
         (session, made) ∷ rest,
-        subst (λ (l : List Call). Serves is_at n lines new l) (sym (append_assoc made (abort_calls rest) calls)) now,
-        (tt, is.abort, are),
-        ap (λ (l : List (List ℕ)). session ∷ l) named ∙ sym (last_first sessions session),
+        subst (λ (l : List Call). Serves is_at n began new l) (sym (append_assoc made (abort_calls rest) calls)) now,
+        (had_one n began (abort_calls rest ++ calls) mid session one serves, is.abort, are),
         (is.done refl, done),
       )
+
+  -- and nothing was done since that calls show
+  pub open_still : (old mid new : Server C M D g h disk) → HasAbortedOpen is_at old mid
+      → ((n : ℕ) (began : Began) (calls : List Call) → Serves is_at n began mid calls → Serves is_at n began new calls)
+      → HasAbortedOpen is_at old new
+  open_still old mid new has same = λ n began calls s.
+      let (list, serves, are) = has n began calls s in (list, same n began (abort_calls list ++ calls) serves, are)
+
+  pub carried_out_still : (old mid new : Server C M D g h disk) → HasCarriedOutAborts is_at old mid
+      → ((n : ℕ) (began : Began) (calls : List Call) → Serves is_at n began mid calls → Serves is_at n began new calls)
+      → HasCarriedOutAborts is_at old new
+  carried_out_still old mid new has same = λ n began calls s.
+      let (list, serves, are, done) = has n began calls s in
+      (list, same n began (abort_calls list ++ calls) serves, are, done)
 
 -- a session that is forgotten has no user, and the others have theirs
 pub still_last : (was now first : List ℕ → Option ℕ) (t : ℕ) (session : List ℕ)

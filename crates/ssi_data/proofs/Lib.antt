@@ -2,4 +2,5 @@ pub mod Makings
 pub mod Turning
 pub mod Aborts
 pub mod Rounds
-pub mod LeftOpen
+pub mod Rotating
+pub mod LastSegment

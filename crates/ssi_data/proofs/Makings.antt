@@ -1,10 +1,10 @@
 -- Calls of a server of one connection, and what they say of its stream.
 use Rattle.std.proofs.Common.{◌≡◌, ℕ, ◌-◌, ◌<◌, length-drop, Bool, true, false, cond, List, [], ◌∷◌, ◌++◌, length, take, Option, Some, None, refl, sym, ap, subst, ◌∙◌, append-nil, Result, Ok, Err, OnOk, IfErr, arith, ◌⊎◌, inl, inr}
-use Rattle.std.specs.Prelude.{◌==◌, not, ◌&&◌, nat_le, MatchOption, MatchResult}
+use Rattle.std.specs.Prelude.{◌==◌, MatchOption, MatchResult}
 use Rattle.std.specs.Option.{option_map}
 use Rattle.std.specs.Io.KnownBytes.{Consumes, Appends, Keeps}
 use Rattle.std.proofs.KnownBytes.{Consumes-nil, Appends-nil, Appends-trans}
-use Rattle.std.proofs.lemmas.Bool.{eq-eqb, both_ways, false≢true}
+use Rattle.std.proofs.lemmas.Bool.{eq-eqb, both_ways}
 use Rattle.std.proofs.lemmas.Option.{same_Some, none-some}
 use Rattle.sqlite_disk.specs.declared.Disk.{Ghosts}
 use Rattle.ssi_versions.specs.declared.chains.Chains.{Ghosts as HeldBy}
@@ -12,11 +12,12 @@ use Rattle.ssi_reads.specs.declared.marks.Marks.{Ghosts as MarkedBy}
 use Rattle.ssi_store.specs.Meaning.Courses.{Course}
 use Rattle.ssi_store.specs.declared.store.Store.{Store}
 use Rattle.ssi_hub.specs.Clauses.Buffers.{Buffers, first_unsent, with_written}
-use Rattle.ssi_hub.specs.Clauses.Clipping.{clipped, has_line}
+use Rattle.ssi_hub.specs.Clauses.Clipping.{clipped}
 use Rattle.ssi_hub.specs.Clauses.Calls.{Call, Received, Wrote, Closed, token_of, is_open, with_call, sent_by, written_to, all_steps}
 use Rattle.ssi_hub.specs.Clauses.Serving.{StandsFor, IsServed}
 use Rattle.ssi_hub.specs.Mirror.{buffers_of, is_stopped}
 use Rattle.ssi_durable.specs.declared.server.Server.{Server}
+use Rattle.ssi_durable.specs.Clauses.Serving.{Began}
 use Rattle.ssi_durable.specs.Mirror.Servers.{Serves, hub_of, is_settled}
 use Rattle.ssi_cli.specs.declared.peer.Sent.TheVariants.{Bytes}
 use Rattle.ssi_cli.specs.Clauses.Turns.{Exchanged, HasUnsent}
@@ -125,30 +126,30 @@ exchanged_kept remaining contents t start old new made one same kept = record {
 
 module _ {C M D : Type 0} {g : HeldBy C} {h : MarkedBy M} {disk : Ghosts D} (is_at : Store C M g h → Course → Type 0) where
   pub open_at : (server : Server C M D g h disk) (t : ℕ) (x : Buffers) → buffers_of (hub_of server) t ≡ Some x
-      → (n : ℕ) (lines : List (List ℕ)) (calls : List Call) → Serves is_at n lines server calls → is_open t calls ≡ true
-  open_at server t x has n lines calls s =
+      → (n : ℕ) (began : Began) (calls : List Call) → Serves is_at n began server calls → is_open t calls ≡ true
+  open_at server t x has n began calls s =
       let hub = hub_of server in
       let (left, served, waits, opened) = served_at (buffers_of hub) hub.next (is_stopped hub) calls t x s.stands has in opened
 
   pub open_by : (Q : Buffers → Type 0) (server : Server C M D g h disk) (t : ℕ) (r : Bool)
       → MatchOption (buffers_of (hub_of server) t) (r ≡ false) Q → r ≡ true
-      → (n : ℕ) (lines : List (List ℕ)) (calls : List Call) → Serves is_at n lines server calls → is_open t calls ≡ true
-  open_by Q server t r m is n lines calls s =
-      let (x, has) = is_there Q (buffers_of (hub_of server) t) r m is in open_at server t x has n lines calls s
+      → (n : ℕ) (began : Began) (calls : List Call) → Serves is_at n began server calls → is_open t calls ≡ true
+  open_by Q server t r m is n began calls s =
+      let (x, has) = is_there Q (buffers_of (hub_of server) t) r m is in open_at server t x has n began calls s
 
   pub makes_none : (server : Server C M D g h disk) (P : List Call → List Call → Type 0) → ((calls : List Call) → P calls [])
       → MakesQuietly is_at server server P
-  makes_none server P is = λ n lines calls s. ([], s, refl, is calls)
+  makes_none server P is = λ n began calls s. ([], s, refl, is calls)
 
   pub makes_one : (old new : Server C M D g h disk) (c : Call) (P : List Call → List Call → Type 0)
-      → ((n : ℕ) (lines : List (List ℕ)) (calls : List Call) → Serves is_at n lines old calls
+      → ((n : ℕ) (began : Began) (calls : List Call) → Serves is_at n began old calls
       → is_open (token_of c) calls ≡ true) → all_steps (c ∷ []) ≡ []
-      → ((n : ℕ) (lines : List (List ℕ)) (calls : List Call) → Serves is_at n lines old calls
-      → Serves is_at n lines new (with_call c calls))
+      → ((n : ℕ) (began : Began) (calls : List Call) → Serves is_at n began old calls
+      → Serves is_at n began new (with_call c calls))
       → ((calls : List Call) → P calls (c ∷ [])) → MakesQuietly is_at old new P
-  makes_one old new c P opened quiet serves is = λ n lines calls s. (
+  makes_one old new c P opened quiet serves is = λ n began calls s. (
     c ∷ [],
-    subst (Serves is_at n lines new) (ap (λ o. cond o (c ∷ calls) calls) (opened n lines calls s)) (serves n lines calls s),
+    subst (Serves is_at n began new) (ap (λ o. cond o (c ∷ calls) calls) (opened n began calls s)) (serves n began calls s),
     quiet,
     is calls,
   )
@@ -156,9 +157,9 @@ module _ {C M D : Type 0} {g : HeldBy C} {h : MarkedBy M} {disk : Ghosts D} (is_
   -- of two calls the first was made, or the second after an error
   pub made_if_ok : {T E : Type 0} (r : Result T E) (old new : Server C M D g h disk) (c d : Call)
       (P : List Call → List Call → Type 0)
-      → ((n : ℕ) (lines : List (List ℕ)) (calls : List Call) → Serves is_at n lines old calls
-      → MatchResult r (λ _. Serves is_at n lines new (with_call c calls)) (λ _. Serves is_at n lines new (with_call d calls)))
-      → ((n : ℕ) (lines : List (List ℕ)) (calls : List Call) → Serves is_at n lines old calls
+      → ((n : ℕ) (began : Began) (calls : List Call) → Serves is_at n began old calls
+      → MatchResult r (λ _. Serves is_at n began new (with_call c calls)) (λ _. Serves is_at n began new (with_call d calls)))
+      → ((n : ℕ) (began : Began) (calls : List Call) → Serves is_at n began old calls
       → is_open (token_of c) calls ≡ true) → all_steps (c ∷ []) ≡ []
       → ((calls : List Call) → P calls (c ∷ [])) → OnOk r (MakesQuietly is_at old new P)
   made_if_ok (Ok x) old new c d P serves opened quiet is = makes_one old new c P opened quiet serves is
@@ -166,9 +167,9 @@ module _ {C M D : Type 0} {g : HeldBy C} {h : MarkedBy M} {disk : Ghosts D} (is_
 
   pub made_if_err : {T E : Type 0} (r : Result T E) (why : E) (old new : Server C M D g h disk) (c d : Call)
       (P : List Call → List Call → Type 0)
-      → ((n : ℕ) (lines : List (List ℕ)) (calls : List Call) → Serves is_at n lines old calls
-      → MatchResult r (λ _. Serves is_at n lines new (with_call c calls)) (λ _. Serves is_at n lines new (with_call d calls)))
-      → ((n : ℕ) (lines : List (List ℕ)) (calls : List Call) → Serves is_at n lines old calls
+      → ((n : ℕ) (began : Began) (calls : List Call) → Serves is_at n began old calls
+      → MatchResult r (λ _. Serves is_at n began new (with_call c calls)) (λ _. Serves is_at n began new (with_call d calls)))
+      → ((n : ℕ) (began : Began) (calls : List Call) → Serves is_at n began old calls
       → is_open (token_of d) calls ≡ true) → all_steps (d ∷ []) ≡ []
       → IfErr r (λ e. e ≡ why) → ((calls : List Call) → P calls (d ∷ []))
       → IfErr r (λ e. (e ≡ why) × MakesQuietly is_at old new P)
@@ -234,40 +235,40 @@ module _ {C M D : Type 0} {g : HeldBy C} {h : MarkedBy M} {disk : Ghosts D} (is_
     has = has_unsent server t (subst (λ (l : List ℕ). 0 < length l) out some)
 
     pub sends : (count : ℕ) → remaining new ≡ remaining old → Appends (contents old) (contents new) (take count bytes)
-        → ((n : ℕ) (lines : List (List ℕ)) (calls : List Call) → Serves is_at n lines server calls
-        → Serves is_at n lines now (cond (is_settled server)
+        → ((n : ℕ) (began : Began) (calls : List Call) → Serves is_at n began server calls
+        → Serves is_at n began now (cond (is_settled server)
         (with_call (Wrote t (first_unsent count (buffers_of (hub_of server) t))) calls) calls))
         → MakesQuietly is_at first now (λ _ made. Exchanged remaining contents t start new made [])
-    sends count same wrote serves = λ n lines calls s.
+    sends count same wrote serves = λ n began calls s.
         let (settled, (x, there, is)) = has in
-        let (made, mid, quiet, one) = makes n lines calls s in
+        let (made, mid, quiet, one) = makes n began calls s in
         let front : take count bytes ≡ first_unsent count (buffers_of (hub_of server) t) =
         ap (take count) (out ∙ is) ∙ sym (ap (first_unsent count) there) in
         let wrote_now = first_unsent count (buffers_of (hub_of server) t) in
-        let opened = open_at server t x there n lines (made ++ calls) mid in (
+        let opened = open_at server t x there n began (made ++ calls) mid in (
           Wrote t wrote_now ∷ made,
-          subst (Serves is_at n lines now) (ap (λ o. cond o (Wrote t wrote_now ∷ (made ++ calls)) (made ++ calls)) opened)
-              (subst (λ o. Serves is_at n lines now (cond o (with_call (Wrote t wrote_now) (made ++ calls)) (made ++ calls)))
-              settled (serves n lines (made ++ calls) mid)),
+          subst (Serves is_at n began now) (ap (λ o. cond o (Wrote t wrote_now ∷ (made ++ calls)) (made ++ calls)) opened)
+              (subst (λ o. Serves is_at n began now (cond o (with_call (Wrote t wrote_now) (made ++ calls)) (made ++ calls)))
+              settled (serves n began (made ++ calls) mid)),
           quiet,
           exchanged_more remaining contents t start old new wrote_now made one same
               (subst (Appends (contents old) (contents new)) front wrote),
         )
 
     pub breaks : remaining new ≡ remaining old → Keeps (contents old) (contents new)
-        → ((n : ℕ) (lines : List (List ℕ)) (calls : List Call) → Serves is_at n lines server calls
-        → Serves is_at n lines now (with_call (Closed t) calls))
+        → ((n : ℕ) (began : Began) (calls : List Call) → Serves is_at n began server calls
+        → Serves is_at n began now (with_call (Closed t) calls))
         → MakesQuietly is_at first now (λ calls made. (earlier : List Call) × (made ≡ Closed t ∷ earlier)
         × HasUnsent t (earlier ++ calls) × Exchanged remaining contents t start new earlier [])
-    breaks same kept serves = λ n lines calls s.
+    breaks same kept serves = λ n began calls s.
         let (settled, (x, there, is)) = has in
-        let (made, mid, quiet, one) = makes n lines calls s in
+        let (made, mid, quiet, one) = makes n began calls s in
         let hub = hub_of server in
         let (left, served, waits, opened) =
         served_at (buffers_of hub) hub.next (is_stopped hub) (made ++ calls) t x mid.stands there in (
           Closed t ∷ made,
-          subst (Serves is_at n lines now) (ap (λ o. cond o (Closed t ∷ (made ++ calls)) (made ++ calls)) opened)
-              (serves n lines (made ++ calls) mid),
+          subst (Serves is_at n began now) (ap (λ o. cond o (Closed t ∷ (made ++ calls)) (made ++ calls)) opened)
+              (serves n began (made ++ calls) mid),
           quiet,
           (
             made,
@@ -282,8 +283,8 @@ module _ {C M D : Type 0} {g : HeldBy C} {h : MarkedBy M} {disk : Ghosts D} (is_
       → MakesQuietly is_at first server (λ _ made. Exchanged remaining contents t start old made [])
       → remaining new ≡ remaining old → Keeps (contents old) (contents new)
       → MakesQuietly is_at first server (λ _ made. Exchanged remaining contents t start new made [])
-  stays remaining contents t start old new first server makes same kept = λ n lines calls s.
-      let (made, mid, quiet, one) = makes n lines calls s in
+  stays remaining contents t start old new first server makes same kept = λ n began calls s.
+      let (made, mid, quiet, one) = makes n began calls s in
       (made, mid, quiet, exchanged_kept remaining contents t start old new made one same kept)
 
 pub some_bytes : (n m : ℕ) → Bytes n ≡ Bytes m → 0 < m → 0 < n

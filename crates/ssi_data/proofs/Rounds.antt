@@ -1,8 +1,8 @@
 -- How a server and the table of users go on, one part after the other.
 use Rattle.std.proofs.Common.{◌≡◌, ℕ, Bool, true, false, cond, List, [], ◌∷◌, ◌++◌, Option, Some, None, refl, sym, ap, subst, ◌∙◌, append_assoc, Result, Ok, Err, OnOk, OnErr, IfErr}
-use Rattle.std.specs.Prelude.{◌==◌, not, ◌&&◌, ◌||◌, is_some, MatchResult}
+use Rattle.std.specs.Prelude.{◌||◌, is_some}
 use Rattle.std.specs.List.{AllByRecursion}
-use Rattle.std.proofs.lemmas.Bool.{eq-eqb, both_ways, false≢true}
+use Rattle.std.proofs.lemmas.Bool.{eq-eqb, false≢true}
 use Rattle.std.proofs.lemmas.Option.{none-some}
 use Rattle.sqlite_disk.specs.declared.Disk.{Ghosts}
 use Rattle.ssi_versions.specs.declared.chains.Chains.{Ghosts as HeldBy}
@@ -16,6 +16,7 @@ use Rattle.ssi_hub.specs.Clauses.Calls.{Call, Opened, Closed, is_open, with_call
 use Rattle.ssi_hub.specs.Mirror.{Stands, buffers_of}
 use Rattle.ssi_durable.specs.declared.server.Server.{Server}
 use Rattle.ssi_durable.specs.Clauses.Journals.{is_full}
+use Rattle.ssi_durable.specs.Clauses.Serving.{Began}
 use Rattle.ssi_durable.specs.Mirror.Servers.{Serves, hub_of, has_failed}
 use Rattle.ssi_log.specs.declared.fault.LogFault.{LogFault}
 use Rattle.ssi_cli.specs.declared.users.Users.{Users}
@@ -91,11 +92,11 @@ calls_first [] = refl
 calls_first (c ∷ calls) = ap (λ (l : List Call). c ∷ l) (calls_first calls)
 
 module _ {C M D : Type 0} {g : HeldBy C} {h : MarkedBy M} {disk : Ghosts D} (is_at : Store C M g h → Course → Type 0) where
-  pub first_done : (n : ℕ) (lines : List (List ℕ)) (users : Option Users) (server : Server C M D g h disk) (calls : List Call)
-      → ((s : List ℕ) → last_at users s ≡ None) → Serves is_at n lines server calls
-      → HasDone is_at n lines users server (called calls [])
-  first_done n lines users server calls nobody s = record {
-    serves = subst (λ (l : List Call). Serves is_at n lines server l) (sym (calls_first calls)) s;
+  pub first_done : (n : ℕ) (began : Began) (users : Option Users) (server : Server C M D g h disk) (calls : List Call)
+      → ((s : List ℕ) → last_at users s ≡ None) → Serves is_at n began server calls
+      → HasDone is_at n began users server (called calls [])
+  first_done n began users server calls nobody s = record {
+    serves = subst (λ (l : List Call). Serves is_at n began server l) (sym (calls_first calls)) s;
     done = record {
       stands = subst (λ (l : List Call). Stands (hub_of server) l) (sym (calls_first calls)) s.stands;
       due = due_called calls;
@@ -107,19 +108,19 @@ module _ {C M D : Type 0} {g : HeldBy C} {h : MarkedBy M} {disk : Ghosts D} (is_
   -- ---- one part after the other
 
   pub stays : (users : Option Users) (server : Server C M D g h disk) → GoesOn is_at users server users server
-  stays users server = record { serves = λ n lines calls s. ([], s); deeds = λ n lines deeds d. ([], d) }
+  stays users server = record { serves = λ n began calls s. ([], s); deeds = λ n began deeds d. ([], d) }
 
   pub both : (a b c : Option Users) (old mid new : Server C M D g h disk) → GoesOn is_at a old b mid → GoesOn is_at b mid c new
       → GoesOn is_at a old c new
   both a b c old mid new first then = record {
-    serves = λ n lines calls s.
-        let (made, on) = first.serves n lines calls s in
-        let (later, goes) = then.serves n lines (made ++ calls) on in
-        (later ++ made, subst (λ (l : List Call). Serves is_at n lines new l) (sym (append_assoc later made calls)) goes);
-    deeds = λ n lines deeds d.
-        let (more, on) = first.deeds n lines deeds d in
-        let (later, goes) = then.deeds n lines (more ++ deeds) on in
-        (later ++ more, subst (λ (l : List Deed). HasDone is_at n lines c new l) (sym (append_assoc later more deeds)) goes);
+    serves = λ n began calls s.
+        let (made, on) = first.serves n began calls s in
+        let (later, goes) = then.serves n began (made ++ calls) on in
+        (later ++ made, subst (λ (l : List Call). Serves is_at n began new l) (sym (append_assoc later made calls)) goes);
+    deeds = λ n began deeds d.
+        let (more, on) = first.deeds n began deeds d in
+        let (later, goes) = then.deeds n began (more ++ deeds) on in
+        (later ++ more, subst (λ (l : List Deed). HasDone is_at n began c new l) (sym (append_assoc later more deeds)) goes);
   }
 
   -- what was changed since isn't seen
@@ -131,17 +132,17 @@ module _ {C M D : Type 0} {g : HeldBy C} {h : MarkedBy M} {disk : Ghosts D} (is_
 
   -- calls were made, and the table has noted them
   by_calls : CallsAreDeeds → (was now : Option Users) (old new : Server C M D g h disk) → is_some now ≡ is_some was
-      → ((n : ℕ) (lines : List (List ℕ)) (calls : List Call) → Serves is_at n lines old calls
-      → (made : List Call) × Serves is_at n lines new (made ++ calls) × HasNoted was now made)
+      → ((n : ℕ) (began : Began) (calls : List Call) → Serves is_at n began old calls
+      → (made : List Call) × Serves is_at n began new (made ++ calls) × HasNoted was now made)
       → GoesOn is_at was old now new
   by_calls law was now old new table makes = record {
-    serves = λ n lines calls s. let (made, on, noted) = makes n lines calls s in (made, on);
-    deeds = λ n lines deeds d.
-        let (made, on, noted) = makes n lines (calls_in deeds) d.serves in (
+    serves = λ n began calls s. let (made, on, noted) = makes n began calls s in (made, on);
+    deeds = λ n began deeds d.
+        let (made, on, noted) = makes n began (calls_in deeds) d.serves in (
           called made [],
-          subst (λ (l : List Deed). HasDone is_at n lines now new l) (sym (called_before made deeds))
+          subst (λ (l : List Deed). HasDone is_at n began now new l) (sym (called_before made deeds))
               (record {
-                serves = subst (λ (l : List Call). Serves is_at n lines new l) (sym (calls_called made deeds)) on;
+                serves = subst (λ (l : List Call). Serves is_at n began new l) (sym (calls_called made deeds)) on;
                 done = law was now (hub_of old) (hub_of new) made deeds d.done table noted on.stands;
               }),
         );
@@ -149,17 +150,17 @@ module _ {C M D : Type 0} {g : HeldBy C} {h : MarkedBy M} {disk : Ghosts D} (is_
 
   -- nothing was done that calls show
   pub same_calls : CallsAreDeeds → QuietAreNoted → (users : Option Users) (old new : Server C M D g h disk)
-      → ((n : ℕ) (lines : List (List ℕ)) (calls : List Call) → Serves is_at n lines old calls → Serves is_at n lines new calls)
+      → ((n : ℕ) (began : Began) (calls : List Call) → Serves is_at n began old calls → Serves is_at n began new calls)
       → GoesOn is_at users old users new
   same_calls law quiet users old new same =
-      by_calls law users users old new refl (λ n lines calls s. ([], same n lines calls s, quiet users [] refl))
+      by_calls law users users old new refl (λ n began calls s. ([], same n began calls s, quiet users [] refl))
 
   pub quietly : CallsAreDeeds → QuietAreNoted → (users : Option Users) (old new : Server C M D g h disk)
       (P : List Call → List Call → Type 0) → MakesQuietly is_at old new P → GoesOn is_at users old users new
   quietly law quiet users old new P makes =
       by_calls law users users old new refl
-      (λ n lines calls s.
-      let (made, on, still, is) = makes n lines calls s in (made, on, quiet users made still))
+      (λ n began calls s.
+      let (made, on, still, is) = makes n began calls s in (made, on, quiet users made still))
 
   -- the same, whatever is returned
   pub quietly_either : {A E : Type 0} → CallsAreDeeds → QuietAreNoted → (r : Result A E) (users : Option Users)
@@ -174,20 +175,20 @@ module _ {C M D : Type 0} {g : HeldBy C} {h : MarkedBy M} {disk : Ghosts D} (is_
       → Makes is_at old new (λ calls made. HasCarriedOut t was now calls made × R calls made) → GoesOn is_at was old now new
   carries law t was now old new R table makes =
       by_calls law was now old new table
-      (λ n lines calls s.
-      let (made, on, (carried, more)) = makes n lines calls s in (made, on, carried.noted))
+      (λ n began calls s.
+      let (made, on, (carried, more)) = makes n began calls s in (made, on, carried.noted))
 
   pub aborts : AbortsAreDeeds → (t : ℕ) (was now : Option Users) (old new : Server C M D g h disk) → is_some now ≡ is_some was
       → HasForgotten was now → is_some (buffers_of (hub_of old) t) ≡ false → HasAborted is_at (HasUsed was t) old new
       → GoesOn is_at was old now new
   aborts law t was now old new table forgot gone has = record {
-    serves = λ n lines calls s. let (list, on, are) = has n lines calls s in (abort_calls list, on);
-    deeds = λ n lines deeds d.
-        let (list, on, are) = has n lines (calls_in deeds) d.serves in (
+    serves = λ n began calls s. let (list, on, are) = has n began calls s in (abort_calls list, on);
+    deeds = λ n began deeds d.
+        let (list, on, are) = has n began (calls_in deeds) d.serves in (
           aborted list [],
-          subst (λ (l : List Deed). HasDone is_at n lines now new l) (sym (aborted_before list deeds))
+          subst (λ (l : List Deed). HasDone is_at n began now new l) (sym (aborted_before list deeds))
               (record {
-                serves = subst (λ (l : List Call). Serves is_at n lines new l) (sym (calls_aborted list deeds)) on;
+                serves = subst (λ (l : List Call). Serves is_at n began new l) (sym (calls_aborted list deeds)) on;
                 done = law was now (hub_of old) (hub_of new) t list deeds d.done table forgot are
                     (closed_at (hub_of old) t gone (calls_in deeds) d.serves.stands) on.stands;
               }),
@@ -196,27 +197,27 @@ module _ {C M D : Type 0} {g : HeldBy C} {h : MarkedBy M} {disk : Ghosts D} (is_
 
   -- a connection was opened, or memory ran out
   pub opens : CallsAreDeeds → QuietAreNoted → (t : ℕ) (users : Option Users) (old new : Server C M D g h disk)
-      → ((n : ℕ) (lines : List (List ℕ)) (calls : List Call) → Serves is_at n lines old calls
-      → Serves is_at n lines new (Opened t ∷ calls))
+      → ((n : ℕ) (began : Began) (calls : List Call) → Serves is_at n began old calls
+      → Serves is_at n began new (Opened t ∷ calls))
       → GoesOn is_at users old users new
   opens law quiet t users old new opened =
       by_calls law users users old new refl
-      (λ n lines calls s. (Opened t ∷ [], opened n lines calls s, quiet users (Opened t ∷ []) refl))
+      (λ n began calls s. (Opened t ∷ [], opened n began calls s, quiet users (Opened t ∷ []) refl))
 
   -- it was closed at once
   pub opens_and_closes : CallsAreDeeds → QuietAreNoted → (t : ℕ) (users : Option Users) (old mid new : Server C M D g h disk)
-      → ((n : ℕ) (lines : List (List ℕ)) (calls : List Call) → Serves is_at n lines old calls
-      → Serves is_at n lines mid (Opened t ∷ calls))
-      → ((n : ℕ) (lines : List (List ℕ)) (calls : List Call) → Serves is_at n lines mid calls
-      → Serves is_at n lines new (with_call (Closed t) calls))
+      → ((n : ℕ) (began : Began) (calls : List Call) → Serves is_at n began old calls
+      → Serves is_at n began mid (Opened t ∷ calls))
+      → ((n : ℕ) (began : Began) (calls : List Call) → Serves is_at n began mid calls
+      → Serves is_at n began new (with_call (Closed t) calls))
       → GoesOn is_at users old users new
   opens_and_closes law quiet t users old mid new opened closed =
       by_calls law users users old new refl
-      (λ n lines calls s. (
+      (λ n began calls s. (
         Closed t ∷ Opened t ∷ [],
-        subst (λ (l : List Call). Serves is_at n lines new l)
+        subst (λ (l : List Call). Serves is_at n began new l)
             (ap (λ o. cond o (Closed t ∷ Opened t ∷ calls) (Opened t ∷ calls)) (open_now calls))
-            (closed n lines (Opened t ∷ calls) (opened n lines calls s)),
+            (closed n began (Opened t ∷ calls) (opened n began calls s)),
         quiet users (Closed t ∷ Opened t ∷ []) refl,
       ))
     where

@@ -1,23 +1,20 @@
 -- A turn of a connection, part by part.
-use Rattle.std.proofs.Common.{◌≡◌, ◌≢◌, ℕ, suc, ◌+◌, ◌<◌, ◌≤◌, Bool, true, false, cond, List, [], ◌∷◌, ◌++◌, length, Option, Some, None, refl, sym, ap, subst, ◌∙◌, append_assoc, append-nil, length-append, Result, Ok, Err, OnOk, IfErr, arith, ◌⊎◌, inl, inr}
+use Rattle.std.proofs.Common.{◌≡◌, ◌≢◌, ℕ, ◌+◌, ◌<◌, ◌≤◌, Bool, true, false, cond, List, [], ◌∷◌, ◌++◌, length, Option, Some, None, refl, sym, ap, subst, ◌∙◌, append_assoc, append-nil, length-append, Result, Ok, Err, OnOk, IfErr, arith, ◌⊎◌, inl, inr}
 use Rattle.std.specs.Prelude.{◌==◌, not, ◌&&◌, ◌||◌, is_some, IsErr, MatchOption, nat_le}
 use Rattle.std.specs.List.{AllByRecursion}
 use Rattle.std.specs.Result.{IsErrAnd}
-use Rattle.std.specs.Io.KnownBytes.{Consumes, IsAtEnd}
 use Rattle.std.proofs.lemmas.Bool.{eq-eqb, both_ways, false≢true, and_parts, leb-true, le-leb}
-use Rattle.std.proofs.lemmas.Option.{same_Some, none-some}
+use Rattle.std.proofs.lemmas.Option.{none-some}
 use Rattle.std.proofs.lemmas.List.Elements.{All-head, All-tail}
-use Rattle.adya_line.specs.Meaning.Lines.{IsPlain}
 use Rattle.sqlite_disk.specs.declared.Disk.{Ghosts}
 use Rattle.ssi_versions.specs.declared.chains.Chains.{Ghosts as HeldBy}
 use Rattle.ssi_reads.specs.declared.marks.Marks.{Ghosts as MarkedBy}
 use Rattle.ssi_store.specs.Meaning.Courses.{Course}
 use Rattle.ssi_store.specs.declared.store.Store.{Store}
-use Rattle.ssi_line.specs.Meaning.Steps.{Step, Stopped, AllGoOn, IsStep, is_stop}
-use Rattle.ssi_line.specs.Clauses.Answers.{kept}
+use Rattle.ssi_line.specs.Meaning.Steps.{Step, Stopped, AllGoOn, is_stop}
 use Rattle.ssi_hub.specs.declared.outcome.CarriedLine.{CarriedLine}
 use Rattle.ssi_hub.specs.Clauses.Buffers.{Buffers}
-use Rattle.ssi_hub.specs.Clauses.Clipping.{clipped, has_line}
+use Rattle.ssi_hub.specs.Clauses.Clipping.{has_line}
 use Rattle.ssi_hub.specs.Clauses.Calls.{Call, Opened, Received, Ran, Wrote, Closed, is_open, with_call, with_run, lines_of, all_steps}
 use Rattle.ssi_hub.specs.Clauses.Outcomes.{lost_by}
 use Rattle.ssi_hub.specs.Clauses.Runs.{EndsSo}
@@ -25,13 +22,14 @@ use Rattle.ssi_hub.specs.Clauses.Serving.{IsServed}
 use Rattle.ssi_hub.specs.Clauses.Stepping.{IsLineStep, may_step}
 use Rattle.ssi_hub.specs.Mirror.{buffers_of, is_stopped}
 use Rattle.ssi_durable.specs.declared.server.Server.{Server}
+use Rattle.ssi_durable.specs.Clauses.Serving.{Began}
 use Rattle.ssi_durable.specs.Mirror.Servers.{Serves, HasStepped, hub_of, store_of}
 use Rattle.ssi_cli.specs.declared.closing.Closing.{Closing}
-use Rattle.ssi_cli.specs.declared.closing.Closing.TheVariants.{Ended, Broken, Memory}
+use Rattle.ssi_cli.specs.declared.closing.Closing.TheVariants.{Ended, Broken}
 use Rattle.ssi_cli.specs.declared.users.Users.{Users}
 use Rattle.ssi_cli.specs.Meaning.Users.{session_in, is_it, is_used, last_by, last_after}
 use Rattle.ssi_cli.specs.Clauses.Leaving.{HasNoted}
-use Rattle.ssi_cli.specs.Clauses.Turns.{IsRunOf, Exchanged, HasUnsent, HasWaiting, IsFinished, HasAllSent, NoneUnsent, IsLeft, MayRun, WantsMore, with_end}
+use Rattle.ssi_cli.specs.Clauses.Turns.{IsRunOf, Exchanged, HasUnsent, HasWaiting, IsFinished, HasAllSent, MayRun, WantsMore}
 use Rattle.ssi_cli.specs.Mirror.{last_in, last_at}
 use Rattle.ssi_data.specs.Clauses.Calls.{Makes, MakesQuietly}
 use Rattle.ssi_data.specs.Clauses.Turns.{HasCarriedOut, HasReplied}
@@ -213,39 +211,39 @@ module _ {C M D : Type 0} {g : HeldBy C} {h : MarkedBy M} {disk : Ghosts D} (is_
   Carried May was now old new = Makes is_at old new (λ calls made. HasCarriedOut t was now calls made × (May → 0 < length made))
 
   pub carried_none : (May : Type 0) (users : Option Users) (old new : Server C M D g h disk) → (May → ⊥)
-      → ((n : ℕ) (lines : List (List ℕ)) (calls : List Call) → Serves is_at n lines old calls → Serves is_at n lines new calls)
+      → ((n : ℕ) (began : Began) (calls : List Call) → Serves is_at n began old calls → Serves is_at n began new calls)
       → Carried May users users old new
-  carried_none May users old new idle same = λ n lines calls s. (
+  carried_none May users old new idle same = λ n began calls s. (
     [],
-    same n lines calls s,
+    same n began calls s,
     (record { runs = []; are = tt; noted = λ s u e. e; ends = inl refl }, λ may. absurd (idle may)),
   )
 
   -- the table may have noted what is the same for clauses
   pub carried_same : (May : Type 0) (was now : Option Users) (old new : Server C M D g h disk) → (May → ⊥)
       → HasNoted was now []
-      → ((n : ℕ) (lines : List (List ℕ)) (calls : List Call) → Serves is_at n lines old calls → Serves is_at n lines new calls)
+      → ((n : ℕ) (began : Began) (calls : List Call) → Serves is_at n began old calls → Serves is_at n began new calls)
       → Carried May was now old new
-  carried_same May was now old new idle noted same = λ n lines calls s. (
+  carried_same May was now old new idle noted same = λ n began calls s. (
     [],
-    same n lines calls s,
+    same n began calls s,
     (record { runs = []; are = tt; noted = noted; ends = inl refl }, λ may. absurd (idle may)),
   )
 
   -- a line was carried out, and its reply was lost or wasn't
   pub carried_step : (May : Type 0) (was now : Option Users) (old new : Server C M D g h disk) (carried : CarriedLine)
       (x : Buffers) → buffers_of (hub_of old) t ≡ Some x
-      → ((n : ℕ) (lines : List (List ℕ)) (calls : List Call) → Serves is_at n lines old calls
-      → HasStepped is_at n lines t calls old new carried)
+      → ((n : ℕ) (began : Began) (calls : List Call) → Serves is_at n began old calls
+      → HasStepped is_at n began t calls old new carried)
       → ((line : List ℕ) (step : Step)
       → IsLineStep is_at (buffers_of (hub_of old) t) (store_of old) carried line step (store_of new)
       → (s : List ℕ) (u : ℕ) → last_at now s ≡ Some u → cond (is_it s (session_in step)) (Some t) (last_at was s) ≡ Some u)
       → Carried May was now old new
-  carried_step May was now old new carried x has steps notes = λ n lines calls s.
-      let (line, step, is, serves) = steps n lines calls s in
-      let opened = open_at is_at old t x has n lines calls s in
+  carried_step May was now old new carried x has steps notes = λ n began calls s.
+      let (line, step, is, serves) = steps n began calls s in
+      let opened = open_at is_at old t x has n began calls s in
       let now_is = with_step t (lost_by carried.outcome) line step calls opened in
-      by_loss n lines calls line step is (lost_by carried.outcome) (subst (λ (l : List Call). Serves is_at n lines new l) now_is serves)
+      by_loss n began calls line step is (lost_by carried.outcome) (subst (λ (l : List Call). Serves is_at n began new l) now_is serves)
     where
       noted_runs : (line : List ℕ) (step : Step)
           → IsLineStep is_at (buffers_of (hub_of old) t) (store_of old) carried line step (store_of new)
@@ -253,12 +251,12 @@ module _ {C M D : Type 0} {g : HeldBy C} {h : MarkedBy M} {disk : Ghosts D} (is_
       noted_runs line step is = λ s u e.
           ap (λ o. cond o (Some t) (last_at was s)) (only (is_it s (session_in step))) ∙ notes line step is s u e
 
-      by_loss : (n : ℕ) (lines : List (List ℕ)) (calls : List Call) (line : List ℕ) (step : Step)
+      by_loss : (n : ℕ) (began : Began) (calls : List Call) (line : List ℕ) (step : Step)
           → IsLineStep is_at (buffers_of (hub_of old) t) (store_of old) carried line step (store_of new)
-          → (o : Bool) → Serves is_at n lines new (cond o (Closed t ∷ ran t line step ∷ calls) (ran t line step ∷ calls))
-          → (made : List Call) × Serves is_at n lines new (made ++ calls)
+          → (o : Bool) → Serves is_at n began new (cond o (Closed t ∷ ran t line step ∷ calls) (ran t line step ∷ calls))
+          → (made : List Call) × Serves is_at n began new (made ++ calls)
           × (HasCarriedOut t was now calls made × (May → 0 < length made))
-      by_loss n lines calls line step is true serves = (
+      by_loss n began calls line step is true serves = (
         Closed t ∷ ran t line step ∷ [],
         serves,
         (
@@ -271,7 +269,7 @@ module _ {C M D : Type 0} {g : HeldBy C} {h : MarkedBy M} {disk : Ghosts D} (is_
           λ may. omega arith,
         ),
       )
-      by_loss n lines calls line step is false serves = (
+      by_loss n began calls line step is false serves = (
         ran t line step ∷ [],
         serves,
         (
@@ -283,16 +281,16 @@ module _ {C M D : Type 0} {g : HeldBy C} {h : MarkedBy M} {disk : Ghosts D} (is_
   -- its table can't hold the session of the line that waits
   pub carried_closed : (May : Type 0) (was now : Option Users) (old new : Server C M D g h disk) (x : Buffers)
       → buffers_of (hub_of old) t ≡ Some x → has_line x.waiting ≡ true
-      → ((n : ℕ) (lines : List (List ℕ)) (calls : List Call) → Serves is_at n lines old calls
-      → Serves is_at n lines new (with_call (Closed t) calls))
+      → ((n : ℕ) (began : Began) (calls : List Call) → Serves is_at n began old calls
+      → Serves is_at n began new (with_call (Closed t) calls))
       → HasNoted was now []
       → Carried May was now old new
-  carried_closed May was now old new x has waits closes noted = λ n lines calls s.
+  carried_closed May was now old new x has waits closes noted = λ n began calls s.
       let hub = hub_of old in
       let (left, served, so, opened) = served_at (buffers_of hub) hub.next (is_stopped hub) calls t x s.stands has in (
         Closed t ∷ [],
-        subst (λ (l : List Call). Serves is_at n lines new l) (ap (λ o. cond o (Closed t ∷ calls) calls) opened)
-            (closes n lines calls s),
+        subst (λ (l : List Call). Serves is_at n began new l) (ap (λ o. cond o (Closed t ∷ calls) calls) opened)
+            (closes n began calls s),
         (
           record {
             runs = [];
@@ -306,45 +304,45 @@ module _ {C M D : Type 0} {g : HeldBy C} {h : MarkedBy M} {disk : Ghosts D} (is_
 
   pub carried_if : (May More : Type 0) (was now : Option Users) (old new : Server C M D g h disk) → (May → More)
       → Carried More was now old new → Carried May was now old new
-  carried_if May More was now old new more first = λ n lines calls s.
-      let (made, serves, (carried, some)) = first n lines calls s in
+  carried_if May More was now old new more first = λ n began calls s.
+      let (made, serves, (carried, some)) = first n began calls s in
       (made, serves, (carried, λ may. some (more may)))
 
   pub carried_both : (May First Then : Type 0) (was is now : Option Users) (old mid new : Server C M D g h disk)
       → (May → First ⊎ Then) → Carried First was is old mid
-      → ((n : ℕ) (lines : List (List ℕ)) (calls : List Call) → Serves is_at n lines mid calls → is_open t calls ≡ true)
+      → ((n : ℕ) (began : Began) (calls : List Call) → Serves is_at n began mid calls → is_open t calls ≡ true)
       → Carried Then is now mid new → Carried May was now old new
-  carried_both May First Then was is now old mid new which first opened then = λ n lines calls s.
-      let (made, serves, (carried, some)) = first n lines calls s in
-      by_end n lines calls made serves carried some carried.ends
+  carried_both May First Then was is now old mid new which first opened then = λ n began calls s.
+      let (made, serves, (carried, some)) = first n began calls s in
+      by_end n began calls made serves carried some carried.ends
     where
       more : (runs later : List Call) → (First → 0 < length runs) → (Then → 0 < length later) → First ⊎ Then
           → 0 < length (later ++ runs)
       more runs later some others (inl f) = omega (arith, length-append later runs, some f)
       more runs later some others (inr t) = omega (arith, length-append later runs, others t)
 
-      by_end : (n : ℕ) (lines : List (List ℕ)) (calls made : List Call) → Serves is_at n lines mid (made ++ calls)
+      by_end : (n : ℕ) (began : Began) (calls made : List Call) → Serves is_at n began mid (made ++ calls)
           → (carried : HasCarriedOut t was is calls made) → (First → 0 < length made)
           → (made ≡ carried.runs) ⊎ ((made ≡ Closed t ∷ carried.runs) × (HasWaiting t (carried.runs ++ calls)
           ⊎ (0 < length (lines_of t carried.runs))))
-          → (made : List Call) × Serves is_at n lines new (made ++ calls)
+          → (made : List Call) × Serves is_at n began new (made ++ calls)
           × (HasCarriedOut t was now calls made × (May → 0 < length made))
-      by_end n lines calls made serves carried some (inl same) =
-          let (later, on, (goes, others)) = then n lines (made ++ calls) serves in
+      by_end n began calls made serves carried some (inl same) =
+          let (later, on, (goes, others)) = then n began (made ++ calls) serves in
           let runs = subst (λ (l : List Call). AllByRecursion (IsRunOf t) l) (sym same) carried.are in (
             later ++ made,
-            subst (λ (l : List Call). Serves is_at n lines new l) (sym (append_assoc later made calls)) on,
+            subst (λ (l : List Call). Serves is_at n began new l) (sym (append_assoc later made calls)) on,
             (carried_on t was is now calls made later runs carried.noted goes, λ may. more made later some others (which may)),
           )
-      by_end n lines calls made serves carried some (inr (same, why)) =
-          absurd (closed_after t made carried.runs calls same (opened n lines (made ++ calls) serves))
+      by_end n began calls made serves carried some (inr (same, why)) =
+          absurd (closed_after t made carried.runs calls same (opened n began (made ++ calls) serves))
 
   -- a line that may be carried out is
   pub carried_maybe : (was now : Option Users) (old new : Server C M D g h disk) (o : Option CarriedLine)
       → MayRun (is_stopped (hub_of old)) (buffers_of (hub_of old) t)
       → is_some o ≡ may_step (is_stopped (hub_of old)) (buffers_of (hub_of old) t)
-      → ((n : ℕ) (lines : List (List ℕ)) (calls : List Call) → Serves is_at n lines old calls
-      → MatchOption o (Serves is_at n lines new calls) (λ carried. HasStepped is_at n lines t calls old new carried))
+      → ((n : ℕ) (began : Began) (calls : List Call) → Serves is_at n began old calls
+      → MatchOption o (Serves is_at n began new calls) (λ carried. HasStepped is_at n began t calls old new carried))
       → ((carried : CarriedLine) (line : List ℕ) (step : Step)
       → IsLineStep is_at (buffers_of (hub_of old) t) (store_of old) carried line step (store_of new)
       → (s : List ℕ) (u : ℕ) → last_at now s ≡ Some u → cond (is_it s (session_in step)) (Some t) (last_at was s) ≡ Some u)
@@ -357,32 +355,32 @@ module _ {C M D : Type 0} {g : HeldBy C} {h : MarkedBy M} {disk : Ghosts D} (is_
 
   pub if_ok : (was now : Option Users) (old new : Server C M D g h disk) → Carried (Unit {0}) was now old new
       → Makes is_at old new (λ calls made. HasCarriedOut t was now calls made × (0 < length made))
-  if_ok was now old new first = λ n lines calls s.
-      let (made, serves, (carried, some)) = first n lines calls s in (made, serves, (carried, some tt))
+  if_ok was now old new first = λ n began calls s.
+      let (made, serves, (carried, some)) = first n began calls s in (made, serves, (carried, some tt))
 
   pub if_err : (was now : Option Users) (old new : Server C M D g h disk) → Carried ⊥ was now old new
       → Makes is_at old new (λ calls made. HasCarriedOut t was now calls made × Unit {0})
-  if_err was now old new first = λ n lines calls s.
-      let (made, serves, (carried, some)) = first n lines calls s in (made, serves, (carried, tt))
+  if_err was now old new first = λ n began calls s.
+      let (made, serves, (carried, some)) = first n began calls s in (made, serves, (carried, tt))
 
   -- the same of a line whose result is passed on
   pub if_passed : {A E : Type 0} (r : Result A E) (May : Type 0) (was now : Option Users) (old new : Server C M D g h disk)
       → IsErr r → Carried ⊥ was now old new
       → Makes is_at old new (λ calls made. HasCarriedOut t was now calls made × (May → OnOk r (0 < length made)))
   if_passed (Ok x) May was now old new is first = absurd (false≢true is)
-  if_passed (Err e) May was now old new is first = λ n lines calls s.
-      let (made, serves, (carried, some)) = first n lines calls s in (made, serves, (carried, λ may. tt))
+  if_passed (Err e) May was now old new is first = λ n began calls s.
+      let (made, serves, (carried, some)) = first n began calls s in (made, serves, (carried, λ may. tt))
 
   pub of_ok : (was now : Option Users) (old new : Server C M D g h disk)
       → Makes is_at old new (λ calls made. HasCarriedOut t was now calls made × (0 < length made))
       → Carried (Unit {0}) was now old new
-  of_ok was now old new first = λ n lines calls s.
-      let (made, serves, (carried, some)) = first n lines calls s in (made, serves, (carried, λ may. some))
+  of_ok was now old new first = λ n began calls s.
+      let (made, serves, (carried, some)) = first n began calls s in (made, serves, (carried, λ may. some))
 
   pub of_err : (was now : Option Users) (old new : Server C M D g h disk)
       → Makes is_at old new (λ calls made. HasCarriedOut t was now calls made × Unit {0}) → Carried ⊥ was now old new
-  of_err was now old new first = λ n lines calls s.
-      let (made, serves, (carried, none)) = first n lines calls s in (made, serves, (carried, λ may. absurd may))
+  of_err was now old new first = λ n began calls s.
+      let (made, serves, (carried, none)) = first n began calls s in (made, serves, (carried, λ may. absurd may))
 
 -- ---- the end of a connection
 
@@ -407,17 +405,17 @@ has_sent (Some b) sent = (b, refl, sent)
 module _ {C M D : Type 0} {g : HeldBy C} {h : MarkedBy M} {disk : Ghosts D} (is_at : Store C M g h → Course → Type 0) (t : ℕ) where
   pub finishes : (old new : Server C M D g h disk) → HasAllSent (buffers_of (hub_of old) t)
       → (MayRun (is_stopped (hub_of old)) (buffers_of (hub_of old) t) → ⊥)
-      → ((n : ℕ) (lines : List (List ℕ)) (calls : List Call) → Serves is_at n lines old calls
-      → Serves is_at n lines new (with_call (Closed t) calls))
+      → ((n : ℕ) (began : Began) (calls : List Call) → Serves is_at n began old calls
+      → Serves is_at n began new (with_call (Closed t) calls))
       → MakesQuietly is_at old new (λ calls made. (made ≡ Closed t ∷ []) × IsFinished t calls)
-  finishes old new sent idle closes = λ n lines calls s.
+  finishes old new sent idle closes = λ n began calls s.
       let hub = hub_of old in
       let (b, has, none) = has_sent (buffers_of hub t) sent in
       let (left, served, so, there) = served_at (buffers_of hub) hub.next (is_stopped hub) calls t b s.stands has in
       let cant = subst (λ (o : Option Buffers). MayRun (is_stopped hub) o → ⊥) has idle in (
         Closed t ∷ [],
-        subst (λ (l : List Call). Serves is_at n lines new l) (ap (λ o. cond o (Closed t ∷ calls) calls) there)
-            (closes n lines calls s),
+        subst (λ (l : List Call). Serves is_at n began new l) (ap (λ o. cond o (Closed t ∷ calls) calls) there)
+            (closes n began calls s),
         refl,
         (
           refl,
@@ -438,8 +436,8 @@ module _ {C M D : Type 0} {g : HeldBy C} {h : MarkedBy M} {disk : Ghosts D} (is_
         × (made ≡ Closed t ∷ earlier) × HasUnsent t (earlier ++ calls)
         × Exchanged remaining contents t start left earlier [])
         → MakesQuietly is_at old new (λ calls made. HasReplied remaining contents t start left r calls made)
-    replied_broken r why old new is broken = λ n lines calls s.
-        let (made, serves, quiet, (earlier, same, unsent, one)) = broken.1 n lines calls s in (
+    replied_broken r why old new is broken = λ n began calls s.
+        let (made, serves, quiet, (earlier, same, unsent, one)) = broken.1 n began calls s in (
           made,
           serves,
           quiet,
@@ -454,10 +452,10 @@ module _ {C M D : Type 0} {g : HeldBy C} {h : MarkedBy M} {disk : Ghosts D} (is_
         → OnOk r (new ≡ mid)
         → IfErr r (λ why. (why ≡ Ended) × P × MakesQuietly is_at mid new (λ calls made. (made ≡ Closed t ∷ []) × IsFinished t calls))
         → MakesQuietly is_at old new (λ calls made. HasReplied remaining contents t start end r calls made)
-    replied (Ok x) old mid new P same sent stays closes = λ n lines calls s.
-        let (made, serves, quiet, one) = sent n lines calls s in (
+    replied (Ok x) old mid new P same sent stays closes = λ n began calls s.
+        let (made, serves, quiet, one) = sent n began calls s in (
           made,
-          subst (λ (v : Server C M D g h disk). Serves is_at n lines v (made ++ calls)) (sym stays) serves,
+          subst (λ (v : Server C M D g h disk). Serves is_at n began v (made ++ calls)) (sym stays) serves,
           quiet,
           record {
             writes = made;
@@ -466,11 +464,11 @@ module _ {C M D : Type 0} {g : HeldBy C} {h : MarkedBy M} {disk : Ghosts D} (is_
             left = refl;
           },
         )
-    replied (Err why) old mid new P same sent stays closes = λ n lines calls s.
-        let (made, serves, quiet, one) = sent n lines calls s in
-        let (later, on, still, (is, finished)) = closes.2 n lines (made ++ calls) serves in (
+    replied (Err why) old mid new P same sent stays closes = λ n began calls s.
+        let (made, serves, quiet, one) = sent n began calls s in
+        let (later, on, still, (is, finished)) = closes.2 n began (made ++ calls) serves in (
           Closed t ∷ made,
-          subst (λ (l : List Call). Serves is_at n lines new (l ++ (made ++ calls))) is on,
+          subst (λ (l : List Call). Serves is_at n began new (l ++ (made ++ calls))) is on,
           quiet,
           subst (λ (w : Closing). HasReplied {A = A} remaining contents t start end (Err w) calls (Closed t ∷ made)) (sym closes.0)
               (record {

@@ -31,6 +31,10 @@ module _ {C M D : Type 0} {g : HeldBy C} {h : MarkedBy M} {disk : Ghosts D} wher
   abbrev pub users_of : Clients C M D g h disk → Option Users
   users_of clients = clients.users
 
+  -- the log is left once it has more bytes
+  abbrev pub due_of : Clients C M D g h disk → ℕ
+  due_of clients = clients.due
+
   -- its server and its table have gone on
   abbrev pub GoOn : (Store C M g h → Course → Type 0) → (old new : Clients C M D g h disk) → Type 0
   GoOn is_at old new = GoesOn is_at (users_of old) (server_of old) (users_of new) (server_of new)

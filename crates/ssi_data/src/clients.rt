@@ -1,17 +1,25 @@
 //! The connections that use a server, and their sockets.
 
-ghost use Rattle.std.specs.Prelude.{◌≡◌, ℕ, List, [], true, false, is_some, OnOk, OnErr, IfErr};
+ghost use Rattle.std.specs.Prelude.{◌≡◌, ◌+◌, ◌-◌, ◌/◌, ◌^◌, ℕ, List, [], None, true, false, is_some, min, nat_lt, IsTrue, OnOk, OnErr, IfOk, IfErr};
 ghost use Rattle.adya_keys.specs.Meaning.Keys.{Bytes};
+ghost use Rattle.ssi_store.specs.Meaning.Courses.{Course, txn_in};
 ghost use Rattle.ssi_store.specs.Mirror.Stores.{IsAt};
 ghost use Rattle.ssi_hub.specs.Clauses.Calls.{Call};
 ghost use Rattle.ssi_hub.specs.Mirror.{buffers_of, is_stopped};
-ghost use Rattle.ssi_durable.specs.Clauses.Journals.{is_full};
-ghost use Rattle.ssi_durable.specs.Mirror.Servers.{Serves, hub_of, is_settled, has_failed};
+ghost use Rattle.ssi_log.specs.Machinery.Standing.{end_of};
+ghost use Rattle.ssi_durable.specs.Clauses.Journals.{HasAll, is_full};
+ghost use Rattle.ssi_durable.specs.Clauses.Recovery.{IsReplayed};
+ghost use Rattle.ssi_durable.specs.Clauses.Serving.{Began};
+ghost use Rattle.ssi_durable.specs.Mirror.Servers.{Serves, hub_of, log_of, store_of, is_settled, has_failed};
 ghost use Rattle.ssi_cli.specs.Clauses.Serving.{aborts};
 ghost use Rattle.ssi_cli.specs.Clauses.Turns.{called};
+ghost use Rattle.ssi_data.specs.Clauses.Aborting.{HasAbortedOpen};
+ghost use Rattle.ssi_data.specs.Clauses.Rotations.{due_len};
 ghost use Rattle.ssi_data.specs.Clauses.Rounds.{HasDone};
 
+use crate::aborting::abort_open;
 use crate::leaving::abort_all;
+use crate::segment::Next;
 use crate::turns::{carry_out, receive, reply, send};
 use mio::event::Event;
 use mio::net::{UnixListener, UnixStream};
@@ -41,18 +49,30 @@ pub struct Clients<C: Chains + Drop, M: Marks + Drop, D: Disk + Drop> {
     full: Option<io::Error>,
     // whether that was said
     is_told: bool,
+    // a log that is longer is left for that of the next segment, unless its loads are more than half of it
+    most: usize,
+    // the log is left once it is longer
+    due: usize,
 }
 
 impl<C: Chains + Drop, M: Marks + Drop, D: Disk + Drop> Clients<C, M, D> {
-    ghost use Rattle.ssi_data.specs.Mirror.{GoOn, server_of, users_of};
+    ghost use Rattle.ssi_data.specs.Mirror.{GoOn, due_of, server_of, users_of};
 
-    /// Those of a server that has no connection yet.
-    pub fn new(alloc: Global, server: Server<C, M, D>, at_close: AtClose) -> Clients<C, M, D>
+    /// Those of a server that has no connection yet. Its segment is left once its log has more than `most` bytes, and more than
+    /// twice as many as its loads, which have `loaded` bytes.
+    pub fn new(
+        alloc: Global,
+        server: Server<C, M, D>,
+        at_close: AtClose,
+        most: usize,
+        loaded: usize,
+    ) -> Clients<C, M, D>
         ensures server { server_of result ≡ server }
         ensures table { is_some (users_of result) ≡ aborts at_close }
+        ensures due { due_of result ≡ due_len most loaded }
         // What the server has served are its first deeds.
-        ensures done { (n : ℕ) (lines : List Bytes) (calls : List Call) → Serves (IsAt C.held M.marked) n lines server calls
-            → HasDone (IsAt C.held M.marked) n lines (users_of result) (server_of result) (called calls []) }
+        ensures done { (n : ℕ) (began : Began) (calls : List Call) → Serves (IsAt C.held M.marked) n began server calls
+            → HasDone (IsAt C.held M.marked) n began (users_of result) (server_of result) (called calls []) }
     {
         Clients {
             server,
@@ -60,7 +80,57 @@ impl<C: Chains + Drop, M: Marks + Drop, D: Disk + Drop> Clients<C, M, D> {
             users: users_for(alloc, at_close),
             full: None,
             is_told: false,
+            most,
+            due: due_len(most, loaded),
         }
+    }
+
+    /// Returns whether the log is so long that the segment is to be left.
+    pub(crate) fn is_due(&self) -> bool
+        ensures { result ≡ nat_lt (due_of self.now) (end_of (log_of (server_of self.now))) }
+    {
+        self.server.log_len() > self.due
+    }
+
+    pub(crate) fn server(&self) -> &Server<C, M, D>
+        ensures { result.now ≡ server_of self.now }
+    {
+        &self.server
+    }
+
+    /// Aborts each session that has a transaction, and waits until this is on the disk. Returns whether no session has one then.
+    pub(crate) fn abort_open(&mut self, alloc: Global) -> Result<bool, LogFault>
+        ensures aborts { HasAbortedOpen (IsAt C.held M.marked) (server_of self.old) (server_of self.new) }
+        ensures settled { OnOk result (is_settled (server_of self.new) ≡ true) }
+        ensures idle { IfOk result (λ all. IsTrue all → (c : Course) → IsAt C.held M.marked (store_of (server_of self.new)) c
+            → (s : Bytes) → txn_in s c ≡ None) }
+        ensures users { users_of self.new ≡ users_of self.old }
+        ensures fault { IfErr result (λ fault. is_full fault ≡ false → has_failed (server_of self.new) ≡ true) }
+    {
+        abort_open(alloc, &mut self.server)
+    }
+
+    /// Begins the next segment.
+    pub(crate) fn begin(&mut self, next: Next<C, M, D>)
+        requires { is_settled (server_of self.old) ≡ true }
+        ensures serves { (n number : ℕ) (began : Began) (lines : List Bytes) (calls : List Call)
+            → Serves (IsAt C.held M.marked) n began (server_of self.old) calls
+            → IsReplayed (IsAt C.held M.marked) number lines next.store → HasAll next.log lines
+            → Serves (IsAt C.held M.marked) number (record { lines = lines; before = calls }) (server_of self.new) calls }
+        ensures users { users_of self.new ≡ users_of self.old }
+        ensures due { due_of self.new ≡ due_len self.old.most next.loaded }
+    {
+        self.server.rotate(next.store, next.log);
+        self.due = due_len(self.most, next.loaded);
+    }
+
+    /// The segment is to be left later: once its log has grown by a quarter of what it may have at most.
+    pub fn put_off(&mut self)
+        ensures server { server_of self.new ≡ server_of self.old }
+        ensures users { users_of self.new ≡ users_of self.old }
+        ensures due { due_of self.new ≡ min (end_of (log_of (server_of self.old)) + self.old.most / 4) (2 ^ 64 - 1) }
+    {
+        self.due = self.server.log_len().saturating_add(self.most / 4);
     }
 
     /// Returns whether `stop` was carried out.
@@ -317,4 +387,11 @@ impl<C: Chains + Drop, M: Marks + Drop, D: Disk + Drop> Clients<C, M, D> {
             self.server.closed(token);
         }
     }
+}
+
+/// A log with these loads is left once it has more bytes.
+fn due_len(most: usize, loaded: usize) -> usize
+    ensures { result ≡ due_len most loaded }
+{
+    most.max(loaded.saturating_mul(2))
 }

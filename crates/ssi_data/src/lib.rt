@@ -2,20 +2,23 @@
 //! out once all lines before them are on the disk; and the start of such a server from the folder of its segments.
 #![tactic(auto)]
 
+mod aborting;
 mod clients;
 mod fault;
 mod halt;
 mod leaving;
+mod rotation;
 mod segment;
 mod service;
-mod sessions;
 mod started;
 mod turns;
 
+pub use aborting::abort_open;
 pub use clients::Clients;
 pub use fault::DataFault;
 pub use halt::Halt;
+pub use rotation::{Rotation, rotate};
 pub use segment::{Segment, open_last};
 pub use service::serve;
-pub use started::{Started, abort_left, start};
+pub use started::{Started, start};
 pub use turns::{carry_out, receive, reply, send};

@@ -18,8 +18,9 @@ use std::alloc::Global;
 /// ready. In a round each connection that is ready carries out up to 256 lines; then all lines that count are put on the disk
 /// by one sync; and only then the replies are written. So what a client reads rests on lines that are on the disk.
 ///
-/// Goes on until `stop` is carried out, the log or the socket fails, or the file of the log can't grow. After `Full` call it
-/// again: meanwhile nothing is lost, and no line is carried out but `stop`. After the others it may not go on.
+/// Goes on until `stop` is carried out, the log or the socket fails, the file of the log can't grow, or the log is so long that
+/// the next segment is to be begun. After `Full` call it again: meanwhile nothing is lost, and no line is carried out but
+/// `stop`. After `Rotate` call it again, too, once [`rotate`](crate::rotate) has returned. After the others it may not go on.
 pub fn serve<C: Chains + Drop, M: Marks + Drop, D: Disk + Drop>(
     alloc: Global,
     poll: &mut Poll,
@@ -48,6 +49,9 @@ pub fn serve<C: Chains + Drop, M: Marks + Drop, D: Disk + Drop>(
         clients.accept(alloc, listener, poll.registry());
         if let Some(why) = clients.news() {
             return Halt::Full(why);
+        }
+        if clients.is_due() {
+            return Halt::Rotate;
         }
     }
     Halt::SocketFault

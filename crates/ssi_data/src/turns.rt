@@ -7,6 +7,7 @@ ghost use Rattle.ssi_store.specs.Mirror.Stores.{IsAt};
 ghost use Rattle.ssi_hub.specs.Clauses.Calls.{Call, Received, Closed, with_call, lines_of};
 ghost use Rattle.ssi_hub.specs.Mirror.{buffers_of, is_stopped};
 ghost use Rattle.ssi_durable.specs.Clauses.Journals.{is_full};
+ghost use Rattle.ssi_durable.specs.Clauses.Serving.{Began};
 ghost use Rattle.ssi_durable.specs.Mirror.Servers.{Serves, hub_of, is_settled, has_failed};
 ghost use Rattle.ssi_cli.specs.Clauses.Peers.{HasRead};
 ghost use Rattle.ssi_cli.specs.Clauses.Turns.{Exchanged, MayRun, WantsMore, HasUnsent, NoneUnsent, HasAllSent, IsFinished, IsIdle};
@@ -65,10 +66,10 @@ pub(crate) fn hand_on<C: Chains + Drop, M: Marks + Drop, D: Disk + Drop>(
     bytes: &[u8],
     server: &mut Server<C, M, D>,
 ) -> Result<(), Closing>
-    ensures serves { (n : ℕ) (lines : List Bytes) (calls : List Call) → Serves (IsAt C.held M.marked) n lines server.old calls
+    ensures serves { (n : ℕ) (began : Began) (calls : List Call) → Serves (IsAt C.held M.marked) n began server.old calls
         → MatchResult result
-        (λ _. Serves (IsAt C.held M.marked) n lines server.new (with_call (Received token bytes.now) calls))
-        (λ _. Serves (IsAt C.held M.marked) n lines server.new (with_call (Closed token) calls)) }
+        (λ _. Serves (IsAt C.held M.marked) n began server.new (with_call (Received token bytes.now) calls))
+        (λ _. Serves (IsAt C.held M.marked) n began server.new (with_call (Closed token) calls)) }
     ensures memory { IfErr result (λ why. why ≡ Closing.Memory) }
 {
     match server.received(token, bytes) {

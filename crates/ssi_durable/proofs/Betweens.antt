@@ -1,5 +1,5 @@
 -- What a crash leaves of the lines of a text.
-use Rattle.std.proofs.Common.{◌≡◌, ℕ, ◌+◌, ◌≤◌, ◌<◌, List, [], ◌∷◌, ◌++◌, length, Bool, true, false, ◌⊎◌, inl, inr, ⊎_elim, refl, sym, ◌∙◌, ap, subst, arith, length-append}
+use Rattle.std.proofs.Common.{◌≡◌, ℕ, ◌≤◌, ◌<◌, List, [], ◌∷◌, ◌++◌, length, Bool, true, false, ◌⊎◌, inl, inr, ⊎_elim, refl, sym, ◌∙◌, ap, subst, arith, length-append}
 use Rattle.std.proofs.lemmas.List.{append-nil, append_assoc}
 use Rattle.std.proofs.lemmas.Bool.{leb-true}
 use Rattle.std.proofs.lemmas.Bool.Decides.{nat_tests}
@@ -11,7 +11,7 @@ use Rattle.ssi_log.specs.Meaning.Crashes.{Keeps}
 use Rattle.ssi_log.specs.Meaning.Texts.{IsFrontOf, text_of}
 use Rattle.ssi_durable.specs.Meaning.Lines.{whole_lines, IsBetween}
 use Rattle.ssi_durable.specs.Clauses.Journals.{LeavesLines}
-use Rattle.ssi_durable.proofs.WholeLines.{Plain, ArePlain, lines_first, lines_are, ends_append, plain_append, from_all_plain}
+use Rattle.ssi_durable.proofs.WholeLines.{Plain, ArePlain, lines_first, lines_are, ends_append, from_all_plain}
 use Rattle.ssi_durable.proofs.Fronts.{front_of, plain_front}
 
 le_or_lt : (a b : ℕ) → (a ≤ b) ⊎ (b < a)
@@ -78,3 +78,14 @@ leaves_more may_leave sure all more leaves = λ file left.
       has = was.has;
       front = ap (λ (ls : List (List ℕ)). ls ++ more) was.front ∙ append_assoc (whole_lines (text_of file)) was.lost more;
     }
+
+-- between all lines and all lines there are all lines
+pub all_between : (all lines : List (List ℕ)) → IsBetween all lines all → lines ≡ all
+all_between all lines is =
+    let none : is.more ≡ [] = nothing is.more
+    (omega (arith, ap length is.front, ap length is.has, length-append lines is.lost, length-append all is.more)) in
+    is.has ∙ ap (λ (ls : List (List ℕ)). all ++ ls) none ∙ append-nil all
+  where
+    nothing : (ls : List (List ℕ)) → length ls ≡ 0 → ls ≡ []
+    nothing [] e = refl
+    nothing (l ∷ ls) e = absurd (omega (arith, e))

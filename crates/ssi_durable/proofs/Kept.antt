@@ -7,8 +7,7 @@ use Rattle.ssi_store.specs.Meaning.Courses.{Course, New}
 use Rattle.ssi_line.specs.Meaning.Steps.{Step}
 use Rattle.ssi_line.specs.Clauses.Counting.{counts}
 use Rattle.ssi_hub.specs.Clauses.Calls.{Call, Opened, Received, Ran, Wrote, Closed, all_steps}
-use Rattle.ssi_durable.specs.Meaning.Lines.{IsBetween}
-use Rattle.ssi_durable.specs.Meaning.Logs.{LeadsIfCounted, counted, logged, told, released, IsLogged, AllLead, HaveLed}
+use Rattle.ssi_durable.specs.Meaning.Logs.{LeadsIfCounted, counted, logged, told, released, AllLead, HaveLed}
 use Rattle.ssi_durable.specs.Meaning.Lives.{IsLife, AreLives, IsExplained, IsKept}
 use Rattle.ssi_durable.specs.Meaning.Replays.{Replays}
 use Rattle.ssi_durable.proofs.Stepping.{replays_on}

@@ -1,17 +1,18 @@
 -- What a recovery leaves of a text.
-use Rattle.std.proofs.Common.{◌≡◌, ℕ, ◌-◌, ◌≤◌, List, [], ◌∷◌, ◌++◌, length, take, refl, sym, ◌∙◌, ap, subst, arith, length-append}
+use Rattle.std.proofs.Common.{◌≡◌, ℕ, ◌+◌, ◌-◌, ◌≤◌, Bool, true, false, cond, Option, Some, None, List, [], ◌∷◌, ◌++◌, length, take, refl, sym, ◌∙◌, ap, subst, arith, length-append}
 use Rattle.std.proofs.lemmas.List.{append_assoc, take_at}
 use Rattle.std.proofs.lemmas.List.Elements.{recursion_from_All, All-from_recursion}
 use Rattle.std.specs.List.{AllByRecursion}
-use Rattle.std.specs.Prelude.{All, ◌≢◌}
+use Rattle.std.specs.Prelude.{All, ◌≢◌, unwrap_or}
 use Rattle.adya_keys.specs.Meaning.Keys.{Bytes}
 use Rattle.adya_text.specs.Meaning.Texts.{with_ends}
 use Rattle.sqlite_disk.specs.Disk.{Only}
 use Rattle.ssi_log.specs.Meaning.Crashes.{Finds, Keeps}
 use Rattle.ssi_log.specs.Meaning.Texts.{HasNoZero, text_of}
-use Rattle.ssi_durable.specs.Meaning.Lines.{whole_lines, torn}
+use Rattle.ssi_durable.specs.Meaning.Lines.{ends_loads, loads_after, loads_len, whole_lines, torn}
+use Rattle.ssi_durable.specs.Machinery.Noting.{loaded_with}
 use Rattle.ssi_durable.specs.Clauses.Recovery.{KeepsLines}
-use Rattle.ssi_durable.proofs.WholeLines.{ArePlain, lines_first, lines_next, lines_are, ends_append, plain_append, falls}
+use Rattle.ssi_durable.proofs.WholeLines.{ArePlain, lines_first, lines_next, lines_none, lines_are, ends_append, plain_append, falls}
 use Rattle.ssi_durable.proofs.Fronts.{kept_lines}
 
 -- these lines of the text are done, and this is left
@@ -46,6 +47,51 @@ all_done text done rest is none =
 
 pub done_len : (text : Bytes) (done : List Bytes) (rest : Bytes) → IsDone text done rest → length text - length rest ≡ length (with_ends done)
 done_len text done rest is = omega (arith, ap length is.parts, length-append (with_ends done) rest)
+
+-- ---- the loads
+
+-- what is known of the loads once these lines of the text are done
+abbrev pub IsFound : (text : Bytes) (done : List Bytes) (rest : Bytes) → Option ℕ → Type 0
+IsFound text done rest None = loads_len (whole_lines text) ≡ loads_after (length (with_ends done)) (whole_lines rest)
+IsFound text done rest (Some n) = n ≡ loads_len (whole_lines text)
+
+-- the same, with one line more
+pub found_next : (text : Bytes) (done : List Bytes) (rest line after : Bytes) → IsDone text done rest → All (λ b. b ≢ 10) line
+    → rest ≡ line ++ (10 ∷ after) → (found : Option ℕ) → IsFound text done rest found → (len : ℕ)
+    → len ≡ length text - length after → IsFound text (done ++ (line ∷ [])) after (loaded_with found line len)
+found_next text done rest line after is plain first (Some n) was len same = was
+found_next text done rest line after is plain first None was len same = by_test (ends_loads line) refl
+  where
+    now : List Bytes
+    now = done ++ (line ∷ [])
+
+    before : ℕ
+    before = length (with_ends done)
+
+    left : loads_len (whole_lines text) ≡ loads_after before (line ∷ whole_lines after)
+    left = was ∙ ap (loads_after before) (lines_next rest line after plain first)
+
+    longer : length (with_ends now) ≡ before + (length line + 1)
+    longer =
+        ap length (ends_append done (line ∷ [])) ∙ length-append (with_ends done) (line ++ (10 ∷ []))
+        ∙ ap (λ (m : ℕ). before + m) (length-append line (10 ∷ []))
+
+    by_test : (b : Bool) → ends_loads line ≡ b → IsFound text now after (cond (ends_loads line) (Some len) None)
+    by_test true e =
+        subst (λ b. IsFound text now after (cond b (Some len) None)) (sym e)
+        (same ∙ done_len text now after (one_done text done rest line after is plain first) ∙ longer
+        ∙ sym (left ∙ ap (λ b. cond b (before + (length line + 1)) (loads_after (before + (length line + 1)) (whole_lines after))) e))
+    by_test false e =
+        subst (λ b. IsFound text now after (cond b (Some len) None)) (sym e)
+        (left ∙ ap (λ b. cond b (before + (length line + 1)) (loads_after (before + (length line + 1)) (whole_lines after))) e
+        ∙ ap (λ n. loads_after n (whole_lines after)) (sym longer))
+
+-- no whole line is left
+pub found_all : (text : Bytes) (done : List Bytes) (rest : Bytes) → All (λ b. b ≢ 10) rest → (found : Option ℕ)
+    → IsFound text done rest found → unwrap_or found 0 ≡ loads_len (whole_lines text)
+found_all text done rest none None was =
+    sym (was ∙ ap (loads_after (length (with_ends done))) (lines_none rest none))
+found_all text done rest none (Some n) was = was
 
 -- ---- a text and its whole lines
 

@@ -1,32 +1,28 @@
 -- What the calls of its hub and of its journal make of a server.
 use Rattle.std.proofs.Common.{◌≡◌, ℕ, ◌≤◌, Bool, true, false, cond, Option, Some, None, nat_eq, List, [], ◌∷◌, ◌++◌, length, refl, sym, ◌∙◌, ap, subst, arith, length-append}
-use Rattle.std.specs.Prelude.{◌&&◌, not, nat_le, is_some, Result, Ok, Err, MatchResult, MatchOption, IfNone, IfSome}
-use Rattle.std.proofs.lemmas.Bool.{false≢true, and_parts, le-leb, leb-true}
+use Rattle.std.specs.Prelude.{not, nat_le, Result, Ok, Err, MatchResult, MatchOption, IfNone, IfSome}
+use Rattle.std.proofs.lemmas.Bool.{false≢true, and_parts, le-leb}
 use Rattle.std.proofs.lemmas.Option.{same_Some, none-some}
 use Rattle.std.proofs.lemmas.List.{append-nil, append_assoc}
 use Rattle.sqlite_disk.specs.declared.Disk.{Ghosts}
 use Rattle.adya_keys.specs.Meaning.Keys.{Bytes}
-use Rattle.adya_line.specs.Meaning.Lines.{IsPlain}
 use Rattle.ssi_versions.specs.declared.chains.Chains.{Ghosts as HeldBy}
 use Rattle.ssi_reads.specs.declared.marks.Marks.{Ghosts as MarkedBy}
-use Rattle.ssi_store.specs.Meaning.Courses.{Course, New}
+use Rattle.ssi_store.specs.Meaning.Courses.{Course}
 use Rattle.ssi_store.specs.declared.store.Store.{Store}
-use Rattle.ssi_line.specs.Meaning.Steps.{Step, IsStep, MayFollow, steps_text}
+use Rattle.ssi_line.specs.Meaning.Steps.{Step, IsStep, steps_text}
 use Rattle.ssi_line.specs.Clauses.Counting.{counts, logged_course}
 use Rattle.ssi_line.specs.Clauses.Ends.{WentOnLogged}
 use Rattle.ssi_line.specs.Clauses.Answers.{kept}
-use Rattle.ssi_hub.specs.declared.hub.Hub.{Hub}
 use Rattle.ssi_hub.specs.Clauses.Buffers.{Buffers}
-use Rattle.ssi_hub.specs.Clauses.Calls.{Call, Opened, Received, Ran, Wrote, Closed, is_open, token_of, steps_of, written_to, all_steps, with_call, with_run}
+use Rattle.ssi_hub.specs.Clauses.Calls.{Call, Opened, Received, Ran, Wrote, Closed, is_open, steps_of, written_to, all_steps, with_call, with_run}
 use Rattle.ssi_hub.specs.Clauses.Clipping.{has_line}
-use Rattle.ssi_hub.specs.Clauses.Serving.{IsServed}
 use Rattle.ssi_hub.specs.Clauses.Stepping.{may_step, is_ready}
 use Rattle.ssi_hub.specs.Mirror.{Stands}
 use Rattle.ssi_durable.specs.declared.journal.Journal.{Journal}
 use Rattle.ssi_durable.specs.declared.server.Server.{Server}
 use Rattle.ssi_durable.specs.Meaning.Logs.{counted, logged, told, released, HaveLed, IsLogged}
-use Rattle.ssi_durable.specs.Meaning.Replays.{Replays}
-use Rattle.ssi_durable.specs.Clauses.Serving.{HasGoneOn, IsTold}
+use Rattle.ssi_durable.specs.Clauses.Serving.{Began, from_start, HasGoneOn, IsTold}
 use Rattle.ssi_durable.specs.Clauses.Recovery.{IsReplayed}
 use Rattle.ssi_durable.specs.Mirror.Journals.{Keeps}
 use Rattle.ssi_durable.specs.Mirror.Servers.{Serves}
@@ -35,28 +31,42 @@ use Rattle.ssi_durable.proofs.Stepping.{AreLettered, one_logged}
 
 -- ---- what calls add
 
--- these calls lead from where the others do; they have the lines of the others, and then these; nothing more was written
-pub record Adds (calls now : List Call) (lines : List Bytes) : Type 0 where
-  pub lines_are : logged now ≡ logged calls ++ lines
-  pub told_are : told now ≡ told calls
-  pub written_is : (t : ℕ) → written_to t now ≡ written_to t calls
+-- after whatever calls these are made, they add these lines, and nothing more is written
+pub record Adds (made : List Call) (lines : List Bytes) : Type 0 where
+  pub lines_are : (calls : List Call) → logged (made ++ calls) ≡ logged calls ++ lines
+  pub told_are : (calls : List Call) → told (made ++ calls) ≡ told calls
+  pub written_is : (calls : List Call) (t : ℕ) → written_to t (made ++ calls) ≡ written_to t calls
 
 -- ---- calls that neither carry out a line nor write
 
 pub record IsQuiet (calls now : List Call) : Type 0 where
-  pub adds : Adds calls now []
-  pub led : (start end : Course) → HaveLed start calls end → HaveLed start now end
+  pub made : List Call
+  pub is : now ≡ made ++ calls
+  pub adds : Adds made []
+  pub led : (before : List Call) (start end : Course) → HaveLed start before end → HaveLed start (made ++ before) end
 
 pub same_is_quiet : (calls : List Call) → IsQuiet calls calls
 same_is_quiet calls = record {
-  adds = record { lines_are = sym (append-nil (logged calls)); told_are = refl; written_is = λ t. refl };
-  led = λ start end led. led;
+  made = [];
+  is = refl;
+  adds = record { lines_are = λ cs. sym (append-nil (logged cs)); told_are = λ cs. refl; written_is = λ cs t. refl };
+  led = λ before start end led. led;
+}
+
+pub opened_is_quiet : (t : ℕ) (calls : List Call) → IsQuiet calls (Opened t ∷ calls)
+opened_is_quiet t calls = record {
+  made = Opened t ∷ [];
+  is = refl;
+  adds = record { lines_are = λ cs. sym (append-nil (logged cs)); told_are = λ cs. refl; written_is = λ cs u. refl };
+  led = λ before start end led. led;
 }
 
 received_if : (b : Bool) (t : ℕ) (bytes : Bytes) (calls : List Call) → IsQuiet calls (cond b (Received t bytes ∷ calls) calls)
 received_if true t bytes calls = record {
-  adds = record { lines_are = sym (append-nil (logged calls)); told_are = refl; written_is = λ u. refl };
-  led = λ start end led. led;
+  made = Received t bytes ∷ [];
+  is = refl;
+  adds = record { lines_are = λ cs. sym (append-nil (logged cs)); told_are = λ cs. refl; written_is = λ cs u. refl };
+  led = λ before start end led. led;
 }
 received_if false t bytes calls = same_is_quiet calls
 
@@ -65,8 +75,10 @@ received_is_quiet t bytes calls = received_if (is_open t calls) t bytes calls
 
 closed_if : (b : Bool) (t : ℕ) (calls : List Call) → IsQuiet calls (cond b (Closed t ∷ calls) calls)
 closed_if true t calls = record {
-  adds = record { lines_are = sym (append-nil (logged calls)); told_are = refl; written_is = λ u. refl };
-  led = λ start end led. led;
+  made = Closed t ∷ [];
+  is = refl;
+  adds = record { lines_are = λ cs. sym (append-nil (logged cs)); told_are = λ cs. refl; written_is = λ cs u. refl };
+  led = λ before start end led. led;
 }
 closed_if false t calls = same_is_quiet calls
 
@@ -100,18 +112,25 @@ open_by false lost t line step calls e more =
 
 -- the calls with a run of one line
 pub record HasRun (calls now : List Call) (line : Bytes) (step : Step) : Type 0 where
-  pub adds : Adds calls now (counted (line ∷ []) (step ∷ []))
-  pub led : (start mid end : Course) → HaveLed start calls mid → IsLogged mid line step end → HaveLed start now end
+  pub made : List Call
+  pub is : now ≡ made ++ calls
+  pub adds : Adds made (counted (line ∷ []) (step ∷ []))
+  pub led : (before : List Call) (start mid end : Course) → HaveLed start before mid → IsLogged mid line step end
+      → HaveLed start (made ++ before) end
 
 ran : (lost : Bool) (t : ℕ) (line : Bytes) (step : Step) (calls : List Call)
     → HasRun calls (cond lost (Closed t ∷ Ran t (line ∷ []) (step ∷ []) ∷ calls) (Ran t (line ∷ []) (step ∷ []) ∷ calls)) line step
 ran true t line step calls = record {
-  adds = record { lines_are = refl; told_are = refl; written_is = λ u. refl };
-  led = λ start mid end led is. (mid, led, (end, is, refl));
+  made = Closed t ∷ Ran t (line ∷ []) (step ∷ []) ∷ [];
+  is = refl;
+  adds = record { lines_are = λ cs. refl; told_are = λ cs. refl; written_is = λ cs u. refl };
+  led = λ before start mid end led is. (mid, led, (end, is, refl));
 }
 ran false t line step calls = record {
-  adds = record { lines_are = refl; told_are = refl; written_is = λ u. refl };
-  led = λ start mid end led is. (mid, led, (end, is, refl));
+  made = Ran t (line ∷ []) (step ∷ []) ∷ [];
+  is = refl;
+  adds = record { lines_are = λ cs. refl; told_are = λ cs. refl; written_is = λ cs u. refl };
+  led = λ before start mid end led is. (mid, led, (end, is, refl));
 }
 
 pub has_run : (lost : Bool) (t : ℕ) (line : Bytes) (step : Step) (calls : List Call)
@@ -143,12 +162,12 @@ noted_is front line short same =
     (same ∙ ap (λ (b : Bool). cond b (Some line) None) (le-leb (length line) 4096 short)) in
     ap noted is ∙ ap (λ (b : Bool). cond b line []) (le-leb (length line) 4096 short)
 
-told_on : (calls now : List Call) (lines : List Bytes) → Adds calls now lines → IsTold calls → IsTold now
-told_on calls now lines adds was = λ t.
+told_on : (made calls : List Call) (lines : List Bytes) → Adds made lines → IsTold calls → IsTold (made ++ calls)
+told_on made calls lines adds was = λ t.
     let (unsent, e) = was t in (
       unsent,
-      ap (λ (cs : List Call). steps_text (steps_of t cs)) adds.told_are ∙ e
-          ∙ ap (λ (w : Bytes). w ++ unsent) (sym (adds.written_is t)),
+      ap (λ (cs : List Call). steps_text (steps_of t cs)) (adds.told_are calls) ∙ e
+          ∙ ap (λ (w : Bytes). w ++ unsent) (sym (adds.written_is calls t)),
     )
 
 -- ---- tests that were turned
@@ -189,40 +208,48 @@ module _ {D : Type 0} {disk : Ghosts D} where
 
 module _ {C M D : Type 0} {g : HeldBy C} {h : MarkedBy M} {disk : Ghosts D} where
   -- calls that add these lines
-  serves_on : (is_at : Store C M g h → Course → Type 0) (n : ℕ) (lines : List Bytes) (old new : Server C M D g h disk)
-      (calls now : List Call) (more : List Bytes) → Adds calls now more → Serves is_at n lines old calls → Stands new.hub now
-      → HasGoneOn is_at n lines new.store now → Keeps new.journal (lines ++ released calls) (lines ++ (logged calls ++ more))
-      → Serves is_at n lines new now
-  serves_on is_at n lines old new calls now more adds was stands gone keeps = record {
+  serves_on : (is_at : Store C M g h → Course → Type 0) (n : ℕ) (began : Began) (old new : Server C M D g h disk)
+      (calls now made : List Call) (more : List Bytes) → now ≡ made ++ calls → Adds made more
+      → (was : Serves is_at n began old calls) → Stands new.hub now → HasGoneOn is_at n began.lines new.store (made ++ was.since)
+      → Keeps new.journal (began.lines ++ released was.since) (began.lines ++ (logged was.since ++ more))
+      → Serves is_at n began new now
+  serves_on is_at n began old new calls now made more is adds was stands gone keeps = record {
+    since = made ++ was.since;
+    parts = is ∙ ap (λ (cs : List Call). made ++ cs) was.parts ∙ sym (append_assoc made was.since began.before);
     stands = stands;
     gone = gone;
-    told = told_on calls now more adds was.told;
-    keeps = subst (λ (cs : List Call). Keeps new.journal (lines ++ logged cs) (lines ++ logged now)) (sym adds.told_are)
-        (subst (λ (ls : List Bytes). Keeps new.journal (lines ++ released calls) (lines ++ ls)) (sym adds.lines_are) keeps);
+    told = subst IsTold (sym is) (told_on made calls more adds was.told);
+    keeps = subst (λ (cs : List Call). Keeps new.journal (began.lines ++ logged cs) (began.lines ++ logged (made ++ was.since)))
+        (sym (adds.told_are was.since))
+        (subst (λ (ls : List Bytes). Keeps new.journal (began.lines ++ released was.since) (began.lines ++ ls))
+        (sym (adds.lines_are was.since)) keeps);
   }
 
   -- a call that adds nothing
-  pub quiet : (is_at : Store C M g h → Course → Type 0) (n : ℕ) (lines : List Bytes) (old new : Server C M D g h disk)
-      (calls now : List Call) → IsQuiet calls now → Serves is_at n lines old calls → Stands new.hub now
-      → new.store ≡ old.store → Keeps new.journal (lines ++ released calls) (lines ++ logged calls) → Serves is_at n lines new now
-  quiet is_at n lines old new calls now is was stands store keeps =
+  pub quiet : (is_at : Store C M g h → Course → Type 0) (n : ℕ) (began : Began) (old new : Server C M D g h disk)
+      (calls now : List Call) → IsQuiet calls now → (was : Serves is_at n began old calls) → Stands new.hub now
+      → new.store ≡ old.store → Keeps new.journal (began.lines ++ released was.since) (began.lines ++ logged was.since)
+      → Serves is_at n began new now
+  quiet is_at n began old new calls now is was stands store keeps =
       let gone = was.gone in
-      serves_on is_at n lines old new calls now [] is.adds was stands (record {
+      serves_on is_at n began old new calls now is.made [] is.is is.adds was stands (record {
         has_header = gone.has_header;
         start = gone.start;
         replayed = gone.replayed;
         end = gone.end;
-        led = is.led gone.start gone.end gone.led;
+        led = is.led was.since gone.start gone.end gone.led;
         at = subst (λ (s : Store C M g h). is_at s gone.end) (sym store) gone.at;
       })
-      (subst (λ (ls : List Bytes). Keeps new.journal (lines ++ released calls) (lines ++ ls)) (sym (append-nil (logged calls))) keeps)
+      (subst (λ (ls : List Bytes). Keeps new.journal (began.lines ++ released was.since) (began.lines ++ ls))
+      (sym (append-nil (logged was.since))) keeps)
 
   -- something was written to a connection, of a server all of whose lines are sure
-  pub written : (is_at : Store C M g h → Course → Type 0) (n : ℕ) (lines : List Bytes) (old new : Server C M D g h disk)
-      (calls : List Call) (t : ℕ) (bytes : Bytes) → Serves is_at n lines old calls → Stands new.hub (with_call (Wrote t bytes) calls)
-      → new.store ≡ old.store → new.journal ≡ old.journal → Keeps old.journal (lines ++ logged calls) (lines ++ logged calls)
-      → Serves is_at n lines new (with_call (Wrote t bytes) calls)
-  written is_at n lines old new calls t bytes was stands store journal sure = by_open (is_open t calls) refl bytes stands
+  pub written : (is_at : Store C M g h → Course → Type 0) (n : ℕ) (began : Began) (old new : Server C M D g h disk)
+      (calls : List Call) (t : ℕ) (bytes : Bytes) → (was : Serves is_at n began old calls)
+      → Stands new.hub (with_call (Wrote t bytes) calls) → new.store ≡ old.store → new.journal ≡ old.journal
+      → Keeps old.journal (began.lines ++ logged was.since) (began.lines ++ logged was.since)
+      → Serves is_at n began new (with_call (Wrote t bytes) calls)
+  written is_at n began old new calls t bytes was stands store journal sure = by_open (is_open t calls) refl bytes stands
     where
       told_all : (u : ℕ) (x : ℕ) (xs : Bytes) → Stands new.hub (Wrote t (x ∷ xs) ∷ calls)
           → (unsent : Bytes) × (steps_text (steps_of u calls) ≡ written_to u (Wrote t (x ∷ xs) ∷ calls) ++ unsent)
@@ -230,7 +257,7 @@ module _ {C M D : Type 0} {g : HeldBy C} {h : MarkedBy M} {disk : Ghosts D} wher
           let (left, unsent, served, is) = stood.served u in
           (unsent, served.replies)
 
-      gone_now : (bs : Bytes) → HasGoneOn is_at n lines new.store (Wrote t bs ∷ calls)
+      gone_now : (bs : Bytes) → HasGoneOn is_at n began.lines new.store (Wrote t bs ∷ was.since)
       gone_now bs = record {
         has_header = was.gone.has_header;
         start = was.gone.start;
@@ -240,14 +267,17 @@ module _ {C M D : Type 0} {g : HeldBy C} {h : MarkedBy M} {disk : Ghosts D} wher
         at = subst (λ (s : Store C M g h). is_at s was.gone.end) (sym store) was.gone.at;
       }
 
-      by_bytes : (bs : Bytes) → Stands new.hub (Wrote t bs ∷ calls) → Serves is_at n lines new (Wrote t bs ∷ calls)
+      by_bytes : (bs : Bytes) → Stands new.hub (Wrote t bs ∷ calls) → Serves is_at n began new (Wrote t bs ∷ calls)
       by_bytes [] stood = record {
+        since = Wrote t [] ∷ was.since;
+        parts = ap (λ (cs : List Call). Wrote t [] ∷ cs) was.parts;
         stands = stood;
         gone = gone_now [];
         told = λ u.
             let (unsent, e) = was.told u in
             (unsent, e ∙ ap (λ (w : Bytes). w ++ unsent) (empty u));
-        keeps = subst (λ (j : Journal D disk). Keeps j (lines ++ released calls) (lines ++ logged calls)) (sym journal) was.keeps;
+        keeps = subst (λ (j : Journal D disk). Keeps j (began.lines ++ released was.since) (began.lines ++ logged was.since))
+            (sym journal) was.keeps;
       }
         where
           empty_if : (b : Bool) (w : Bytes) → w ≡ cond b (w ++ []) w
@@ -257,28 +287,34 @@ module _ {C M D : Type 0} {g : HeldBy C} {h : MarkedBy M} {disk : Ghosts D} wher
           empty : (u : ℕ) → written_to u calls ≡ written_to u (Wrote t [] ∷ calls)
           empty u = empty_if (nat_eq t u) (written_to u calls)
       by_bytes (x ∷ xs) stood = record {
+        since = Wrote t (x ∷ xs) ∷ was.since;
+        parts = ap (λ (cs : List Call). Wrote t (x ∷ xs) ∷ cs) was.parts;
         stands = stood;
         gone = gone_now (x ∷ xs);
         told = λ u. told_all u x xs stood;
-        keeps = subst (λ (j : Journal D disk). Keeps j (lines ++ logged calls) (lines ++ logged calls)) (sym journal) sure;
+        keeps = subst (λ (j : Journal D disk). Keeps j (began.lines ++ logged was.since) (began.lines ++ logged was.since))
+            (sym journal) sure;
       }
 
       by_open : (b : Bool) → is_open t calls ≡ b → (bs : Bytes) → Stands new.hub (cond (is_open t calls) (Wrote t bs ∷ calls) calls)
-          → Serves is_at n lines new (cond (is_open t calls) (Wrote t bs ∷ calls) calls)
+          → Serves is_at n began new (cond (is_open t calls) (Wrote t bs ∷ calls) calls)
       by_open true e bs stood =
-          subst (λ (x : Bool). Serves is_at n lines new (cond x (Wrote t bs ∷ calls) calls)) (sym e)
+          subst (λ (x : Bool). Serves is_at n began new (cond x (Wrote t bs ∷ calls) calls)) (sym e)
           (by_bytes bs (subst (λ (x : Bool). Stands new.hub (cond x (Wrote t bs ∷ calls) calls)) e stood))
       by_open false e bs stood =
-          subst (λ (x : Bool). Serves is_at n lines new (cond x (Wrote t bs ∷ calls) calls)) (sym e)
-          (quiet is_at n lines old new calls calls (same_is_quiet calls) was
+          subst (λ (x : Bool). Serves is_at n began new (cond x (Wrote t bs ∷ calls) calls)) (sym e)
+          (quiet is_at n began old new calls calls (same_is_quiet calls) was
           (subst (λ (x : Bool). Stands new.hub (cond x (Wrote t bs ∷ calls) calls)) e stood) store
-          (subst (λ (j : Journal D disk). Keeps j (lines ++ released calls) (lines ++ logged calls)) (sym journal) was.keeps))
+          (subst (λ (j : Journal D disk). Keeps j (began.lines ++ released was.since) (began.lines ++ logged was.since)) (sym journal)
+          was.keeps))
 
-  -- a server that has just started
-  pub starts : (is_at : Store C M g h → Course → Type 0) (n : ℕ) (lines : List Bytes) (server : Server C M D g h disk)
-      → IsReplayed is_at n lines server.store → Stands server.hub [] → Keeps server.journal lines lines
-      → Serves is_at n lines server []
-  starts is_at n lines server was stands keeps = record {
+  -- a segment that has just begun, with connections that have made these calls
+  pub begins : (is_at : Store C M g h → Course → Type 0) (n : ℕ) (lines : List Bytes) (server : Server C M D g h disk)
+      (calls : List Call) → IsReplayed is_at n lines server.store → Stands server.hub calls → IsTold calls
+      → Keeps server.journal lines lines → Serves is_at n (record { lines = lines; before = calls }) server calls
+  begins is_at n lines server calls was stands told keeps = record {
+    since = [];
+    parts = refl;
     stands = stands;
     gone = record {
       has_header = was.has_header;
@@ -288,30 +324,38 @@ module _ {C M D : Type 0} {g : HeldBy C} {h : MarkedBy M} {disk : Ghosts D} wher
       led = refl;
       at = was.at;
     };
-    told = λ t. ([], refl);
+    told = told;
     keeps = subst (λ (ls : List Bytes). Keeps server.journal ls ls) (sym (append-nil lines)) keeps;
   }
 
+  -- a server that has just started
+  pub starts : (is_at : Store C M g h → Course → Type 0) (n : ℕ) (lines : List Bytes) (server : Server C M D g h disk)
+      → IsReplayed is_at n lines server.store → Stands server.hub [] → Keeps server.journal lines lines
+      → Serves is_at n (from_start lines) server []
+  starts is_at n lines server was stands keeps =
+      begins is_at n lines server [] was stands (λ t. ([], refl)) keeps
+
   -- a line was carried out
-  pub line_served : (is_at : Store C M g h → Course → Type 0) (n : ℕ) (lines : List Bytes) (old new : Server C M D g h disk)
-      (calls : List Call) (lost : Bool) (t : ℕ) (line : Bytes) (step : Step) → AreLettered → Serves is_at n lines old calls
+  pub line_served : (is_at : Store C M g h → Course → Type 0) (n : ℕ) (began : Began) (old new : Server C M D g h disk)
+      (calls : List Call) (lost : Bool) (t : ℕ) (line : Bytes) (step : Step) → AreLettered → (was : Serves is_at n began old calls)
       → IsStep line step → WentOnLogged is_at old.store step new.store
       → Stands new.hub (with_run lost t (line ∷ []) (step ∷ []) calls)
       → all_steps (with_run lost t (line ∷ []) (step ∷ []) calls) ≡ all_steps calls ++ (step ∷ [])
-      → Keeps new.journal (lines ++ released calls) ((lines ++ logged calls) ++ counted (line ∷ []) (step ∷ []))
-      → Serves is_at n lines new (with_run lost t (line ∷ []) (step ∷ []) calls)
-  line_served is_at n lines old new calls lost t line step law was is went stands more keeps =
+      → Keeps new.journal (began.lines ++ released was.since)
+      ((began.lines ++ logged was.since) ++ counted (line ∷ []) (step ∷ []))
+      → Serves is_at n began new (with_run lost t (line ∷ []) (step ∷ []) calls)
+  line_served is_at n began old new calls lost t line step law was is went stands more keeps =
       let run = has_run lost t line step calls more in
       let gone = was.gone in
       let now = went gone.end gone.at in
-      serves_on is_at n lines old new calls (with_run lost t (line ∷ []) (step ∷ []) calls)
-      (counted (line ∷ []) (step ∷ [])) run.adds was stands (record {
+      serves_on is_at n began old new calls (with_run lost t (line ∷ []) (step ∷ []) calls) run.made
+      (counted (line ∷ []) (step ∷ [])) run.is run.adds was stands (record {
         has_header = gone.has_header;
         start = gone.start;
         replayed = gone.replayed;
         end = logged_course gone.end step;
-        led = run.led gone.start gone.end (logged_course gone.end step) gone.led (one_logged law gone.end line step is now.0);
+        led = run.led was.since gone.start gone.end (logged_course gone.end step) gone.led (one_logged law gone.end line step is now.0);
         at = now.1;
       })
-      (subst (λ (ls : List Bytes). Keeps new.journal (lines ++ released calls) ls)
-      (append_assoc lines (logged calls) (counted (line ∷ []) (step ∷ []))) keeps)
+      (subst (λ (ls : List Bytes). Keeps new.journal (began.lines ++ released was.since) ls)
+      (append_assoc began.lines (logged was.since) (counted (line ∷ []) (step ∷ []))) keeps)

@@ -1,6 +1,6 @@
 -- What one step adds to a course and to the lines of a log.
-use Rattle.std.proofs.Common.{◌≡◌, ◌≢◌, ℕ, ◌≤◌, Bool, true, false, cond, inl, inr, List, [], ◌∷◌, ◌++◌, length, refl, sym, ◌∙◌, ap, subst, arith}
-use Rattle.std.specs.Prelude.{not, ◌&&◌}
+use Rattle.std.proofs.Common.{◌≡◌, ◌≢◌, ℕ, ◌≤◌, Bool, true, false, cond, List, [], ◌∷◌, ◌++◌, length, refl, sym, ◌∙◌, ap, subst, arith}
+use Rattle.std.specs.Prelude.{not}
 use Rattle.std.specs.List.{All}
 use Rattle.std.proofs.lemmas.Bool.{false≢true, and_parts}
 use Rattle.std.proofs.lemmas.Bool.Decides.{nat_tests}
@@ -16,7 +16,7 @@ use Rattle.ssi_line.specs.Meaning.Spelling.{Do, IsLineOf}
 use Rattle.ssi_line.specs.Meaning.Steps.{Step, Given, Dumped, NotDumped, Stopped, NotRead, TooLong, IsStep, MayFollow, course_with}
 use Rattle.ssi_line.specs.Clauses.Counting.{is_stat, is_refusal, counts, logged_course}
 use Rattle.ssi_durable.specs.Meaning.Lines.{is_comment}
-use Rattle.ssi_durable.specs.Meaning.Replays.{answer_after, LeadsIf, Leads, Replays}
+use Rattle.ssi_durable.specs.Meaning.Replays.{LeadsIf, Leads, Replays}
 use Rattle.ssi_durable.specs.Meaning.Logs.{LeadsIfCounted, IsLogged}
 use Rattle.ssi_durable.proofs.Stops.{unrefused}
 

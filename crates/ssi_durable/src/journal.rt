@@ -3,6 +3,7 @@
 ghost use Rattle.std.specs.Prelude.{◌≡◌, ◌≤◌, ◌+◌, ℕ, List, [], ◌∷◌, ◌++◌, true, false, IfOk, IfErr, OnOk, OnErr, length};
 ghost use Rattle.adya_keys.specs.Meaning.Keys.{Bytes};
 ghost use Rattle.adya_line.specs.Meaning.Lines.{IsPlain};
+ghost use Rattle.ssi_log.specs.Machinery.Standing.{end_of};
 ghost use Rattle.ssi_log.specs.Meaning.Texts.{HasNoZero};
 ghost use Rattle.ssi_durable.specs.Clauses.Journals.{HasAll, is_full};
 
@@ -43,6 +44,28 @@ impl<D: Disk + Drop> Journal<D> {
             is_settled: true,
             has_failed: false,
         })
+    }
+
+    /// Goes on with the lines that this log has.
+    pub(crate) fn go_on_with(&mut self, log: Log<D>)
+        ensures keeps { (lines : List Bytes) → HasAll log lines → Keeps self.new lines lines }
+        ensures settled { is_settled self.new ≡ true }
+        ensures going { has_failed self.new ≡ false }
+        ensures log { self.new.log ≡ log }
+    {
+        open_logs_keep_their_text(&log);
+        self.log = log;
+        let buffer = &mut self.buffer;
+        buffer.clear();
+        self.is_settled = true;
+        self.has_failed = false;
+    }
+
+    /// Returns how many bytes the log has.
+    pub(crate) fn log_len(&self) -> usize
+        ensures { result ≡ end_of self.now.log }
+    {
+        self.log.len()
     }
 
     /// Makes room for a line in the buffer, and for all of the buffer in the log. `Full` if the file can't grow: then there may

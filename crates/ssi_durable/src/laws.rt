@@ -11,6 +11,7 @@ ghost use Rattle.ssi_log.specs.Meaning.Texts.{text_of};
 ghost use Rattle.ssi_log.specs.Machinery.Standing.{disk_of};
 ghost use Rattle.ssi_store.specs.Mirror.Stores.{IsAt};
 ghost use Rattle.ssi_durable.specs.Meaning.Lives.{AreLives, IsKept, IsLife};
+ghost use Rattle.ssi_durable.specs.Clauses.Serving.{Began};
 ghost use Rattle.ssi_durable.specs.Mirror.Servers.{Serves, log_of};
 ghost use Rattle.ssi_durable.specs.Meaning.Replays.{Replays};
 
@@ -45,11 +46,12 @@ pub fn lives_keep_what_was_told()
         → AllByRecursion (IsKept left) lives }
 {}
 
-/// Whenever a server ends, by a crash or otherwise, the lines that are left in the file end a life.
+/// Whenever a server ends, by a crash or otherwise, the lines that are left in the file of its segment end a life: that of the
+/// calls since it has begun the segment.
 pub fn crashes_end_lives<C: Chains + Drop, M: Marks + Drop, D: Disk>(server: &Server<C, M, D>)
-    ensures { (n : ℕ) (lines : List (List ℕ)) (calls : List Call) (file : List ℕ)
-        → Serves (IsAt C.held M.marked) n lines server.now calls → D.may_leave (disk_of (log_of server.now)) file
-        → IsLife lines calls (whole_lines (text_of file)) }
+    ensures { (n : ℕ) (began : Began) (calls : List Call) (file : List ℕ)
+        → Serves (IsAt C.held M.marked) n began server.now calls → D.may_leave (disk_of (log_of server.now)) file
+        → (since : List Call) × (calls ≡ since ++ began.before) × IsLife began.lines since (whole_lines (text_of file)) }
 {
     let _server = server;
 }

@@ -7,11 +7,14 @@ mod fault;
 mod journal;
 pub mod laws;
 mod lines;
+mod loading;
 mod recovery;
 mod replaying;
 mod server;
 
 pub use fault::{RecoveryFault, ReplayFault};
 pub use lines::first_line;
+pub use loading::load;
 pub use recovery::{Recovered, recover};
+pub use replaying::{Replayed, replay};
 pub use server::Server;

@@ -2,7 +2,7 @@
 
 ghost use Rattle.std.specs.Prelude.{◌≡◌, ◌↔◌, ◌∷◌, ◌++◌, IfSome, IfNone, IsTrue};
 ghost use Rattle.adya_line.specs.Meaning.Lines.{IsPlain};
-ghost use Rattle.ssi_durable.specs.Meaning.Lines.{HasHeader, header, is_comment, whole_lines};
+ghost use Rattle.ssi_durable.specs.Meaning.Lines.{HasHeader, ends_loads, header, is_comment, whole_lines};
 
 use itoa::Buffer;
 use memchr::memchr;
@@ -24,6 +24,13 @@ pub(crate) fn is_comment(line: &[u8]) -> bool
     ensures { result ≡ is_comment line.now }
 {
     matches!(line, [b'#', ..])
+}
+
+/// Returns whether the line ends the loads of a segment.
+pub(crate) fn ends_loads(line: &[u8]) -> bool
+    ensures { result ≡ ends_loads line.now }
+{
+    line == b"# loaded".as_slice()
 }
 
 /// Returns whether the first line of the text is that of this segment.

@@ -6,7 +6,7 @@ ghost use Rattle.ssi_store.specs.Meaning.Courses.{New};
 ghost use Rattle.ssi_store.specs.Mirror.Stores.{IsAt};
 ghost use Rattle.ssi_log.specs.Meaning.Texts.{text_of};
 ghost use Rattle.ssi_log.specs.Machinery.Standing.{disk_of, room_of};
-ghost use Rattle.ssi_durable.specs.Meaning.Lines.{torn, whole_lines};
+ghost use Rattle.ssi_durable.specs.Meaning.Lines.{loads_len, torn, whole_lines};
 ghost use Rattle.ssi_durable.specs.Clauses.Journals.{HasAll};
 ghost use Rattle.ssi_durable.specs.Clauses.Recovery.{IsReplayed, KeepsLines, RecoveryFails, WasRead};
 
@@ -26,6 +26,8 @@ pub struct Recovered {
     pub lines: usize,
     /// How many bytes followed the last line feed, and are gone.
     pub torn: usize,
+    /// How many bytes its loads have: the lines up to the first `# loaded`. 0 if there is no such line.
+    pub loaded: usize,
 }
 
 /// Carries out the whole lines of a segment on a new store, and opens its log with exactly these lines, all of them on the
@@ -43,7 +45,7 @@ pub fn recover<C: Chains + Drop, M: Marks + Drop, D: Disk>(
 ) -> Result<Recovered, RecoveryFault>
     ensures recovered { IsAt C.held M.marked store.old (New 1) → IfOk result (λ r. (text : List ℕ) × WasRead log.old log.new text
         × IsReplayed (IsAt C.held M.marked) number (whole_lines text) store.new × HasAll log.new (whole_lines text)
-        × (r.lines ≡ length (whole_lines text)) × (r.torn ≡ length (torn text))) }
+        × (r.lines ≡ length (whole_lines text)) × (r.torn ≡ length (torn text)) × (r.loaded ≡ loads_len (whole_lines text))) }
     ensures room { OnOk result (ahead ≤ room_of log.new) }
     ensures fault { IsAt C.held M.marked store.old (New 1) → IfErr result (RecoveryFails log.old log.new number ahead) }
 
@@ -65,5 +67,6 @@ pub fn recover<C: Chains + Drop, M: Marks + Drop, D: Disk>(
     Ok(Recovered {
         lines: replayed.lines,
         torn: text.len() - replayed.len,
+        loaded: replayed.loaded,
     })
 }

@@ -4,28 +4,35 @@ ghost use Rattle.std.specs.Prelude.{◌≡◌, length, IfOk, IfErr, OnOk};
 ghost use Rattle.adya_text.specs.Meaning.Texts.{with_ends};
 ghost use Rattle.ssi_store.specs.Meaning.Courses.{Course, New};
 ghost use Rattle.ssi_store.specs.Mirror.Stores.{IsAt};
-ghost use Rattle.ssi_durable.specs.Meaning.Lines.{whole_lines};
+ghost use Rattle.ssi_durable.specs.Meaning.Lines.{loads_len, whole_lines};
 ghost use Rattle.ssi_durable.specs.Meaning.Replays.{Leads};
 ghost use Rattle.ssi_durable.specs.Clauses.Recovery.{IsReplayed, LineFails, ReplayFails};
 ghost use Rattle.ssi_durable.specs.Machinery.Faults.{at_line, fault_of};
+ghost use Rattle.ssi_durable.specs.Machinery.Noting.{loaded_with};
 
 use crate::fault::{LineFault, ReplayFault};
-use crate::lines::{first_line, has_header, is_comment};
+use crate::lines::{ends_loads, first_line, has_header, is_comment};
 use ssi_line::{Line, read_line};
 use ssi_reads::Marks;
 use ssi_store::{Refusal, Store};
 use ssi_versions::Chains;
 
-/// How many whole lines a text has, and how many bytes they have.
+/// What was carried out of a text.
 #[derive(Clone, Copy)]
-pub(crate) struct Replayed {
+pub struct Replayed {
+    /// How many whole lines it has.
     pub lines: usize,
+    /// How many bytes they have.
     pub len: usize,
+    /// How many of these its loads have.
+    pub loaded: usize,
 }
 
-/// Carries out the whole lines of the text, which is that of a segment, on a new store. After a fault the store has carried
-/// out the lines before it.
-pub(crate) fn replay<C: Chains + Drop, M: Marks + Drop>(
+/// Carries out the whole lines of the text, which is that of the segment with this number, on a new store.
+///
+/// `Header` if the first line isn't that of the segment; `Damaged` at the first line that is no command, or is refused;
+/// `Memory` if memory ran out. After a fault the store has carried out the lines before it.
+pub fn replay<C: Chains + Drop, M: Marks + Drop>(
     store: &mut Store<C, M>,
     number: u32,
     text: &[u8],
@@ -34,12 +41,14 @@ pub(crate) fn replay<C: Chains + Drop, M: Marks + Drop>(
         → OnOk result (IsReplayed (IsAt C.held M.marked) number (whole_lines text.now) store.new) }
     ensures lines { IfOk result (λ r. r.lines ≡ length (whole_lines text.now)) }
     ensures len { IfOk result (λ r. r.len ≡ length (with_ends (whole_lines text.now))) }
+    ensures loaded { IfOk result (λ r. r.loaded ≡ loads_len (whole_lines text.now)) }
     ensures fault { IsAt C.held M.marked store.old (New 1) → IfErr result (ReplayFails number (whole_lines text.now)) }
 {
     if !has_header(text, number) {
         return Err(ReplayFault::Header);
     }
     let mut lines = 0;
+    let mut loaded = None;
     let mut rest = text;
     while let Some((line, after)) = first_line(rest) {
         let carried = carry_out(store, line);
@@ -48,11 +57,24 @@ pub(crate) fn replay<C: Chains + Drop, M: Marks + Drop>(
         }
         lines += 1;
         rest = after;
+        loaded = loaded_with(loaded, line, text.len() - rest.len());
     }
     Ok(Replayed {
         lines,
         len: text.len() - rest.len(),
+        loaded: loaded.unwrap_or(0),
     })
+}
+
+/// How many bytes the loads have, as far as that is known, once the line was carried out, up to which there are so many.
+fn loaded_with(loaded: Option<usize>, line: &[u8], len: usize) -> Option<usize>
+    ensures { result ≡ loaded_with loaded line.now len }
+{
+    match loaded {
+        Some(loaded) => Some(loaded),
+        None if ends_loads(line) => Some(len),
+        None => None,
+    }
 }
 
 /// Says of which line a fault is.

@@ -1,28 +1,37 @@
 //! A store that many connections use, with a log of the lines that it has carried out.
 
-ghost use Rattle.std.specs.Prelude.{◌≡◌, ℕ, List, [], ◌∷◌, ◌++◌, None, Some, true, false, IfOk, OnOk, OnErr, IfErr, IfSome, IfNone, MatchResult, MatchOption, if◌then◌else◌, is_some, not, ◌&&◌, nat_le, nat_lt, length};
+ghost use Rattle.std.specs.Prelude.{◌≡◌, ℕ, List, [], ◌∷◌, ◌++◌, None, Some, true, false, IfOk, OnOk, OnErr, IfErr, IfSome, IfNone, MatchResult, MatchOption, if◌then◌else◌, is_some, not, ◌&&◌, nat_le, nat_lt, length, map};
 ghost use Rattle.std.specs.Option.{option_map};
 ghost use Rattle.adya_keys.specs.Meaning.Keys.{Bytes};
 ghost use Rattle.adya_line.specs.Meaning.Lines.{IsPlain};
+ghost use Rattle.adya_values.specs.Mirror.Events.{final_of};
+ghost use Rattle.ssi_store.specs.Meaning.Contents.{contents_after};
+ghost use Rattle.ssi_store.specs.Meaning.Courses.{Course, txn_in};
 ghost use Rattle.ssi_store.specs.Mirror.Stores.{IsAt};
 ghost use Rattle.ssi_hub.specs.Clauses.Calls.{Call, Opened, Received, Wrote, Closed, with_call};
 ghost use Rattle.ssi_hub.specs.Clauses.Buffers.{Buffers, first_unsent, with_received, with_written};
 ghost use Rattle.ssi_hub.specs.Clauses.Clipping.{has_line};
 ghost use Rattle.ssi_hub.specs.Clauses.Stepping.{may_step};
 ghost use Rattle.ssi_hub.specs.Mirror.{buffers_of, next_token, is_stopped, Changed, IsSame};
+ghost use Rattle.ssi_log.specs.Meaning.Texts.{text_of};
+ghost use Rattle.ssi_log.specs.Machinery.Standing.{disk_of, end_of};
+ghost use Rattle.ssi_durable.specs.Meaning.Lines.{whole_lines};
+ghost use Rattle.ssi_durable.specs.Meaning.Logs.{logged};
 ghost use Rattle.ssi_durable.specs.Clauses.Journals.{HasAll, is_full};
 ghost use Rattle.ssi_durable.specs.Clauses.Recovery.{IsReplayed};
+ghost use Rattle.ssi_durable.specs.Clauses.Serving.{Began, from_start};
 ghost use Rattle.ssi_durable.specs.Mirror.Journals.{HasRoom};
 ghost use Rattle.ssi_durable.specs.Machinery.Noting.{noted};
 
 use crate::buffer::Noted;
 use crate::journal::{Journal, is_full};
+use adya_values::FinalPair;
 use sqlite_disk::Disk;
 use ssi_hub::{CarriedLine, Hub};
 use ssi_line::laws::commands_are_words;
 use ssi_log::{Log, LogFault};
 use ssi_reads::Marks;
-use ssi_store::Store;
+use ssi_store::{Session, Store};
 use ssi_versions::Chains;
 use std::alloc::{AllocError, Global};
 
@@ -37,7 +46,7 @@ pub struct Server<C: Chains + Drop, M: Marks + Drop, D: Disk> {
 }
 
 impl<C: Chains + Drop, M: Marks + Drop, D: Disk + Drop> Server<C, M, D> {
-    ghost use Rattle.ssi_durable.specs.Mirror.Servers.{Serves, HasStepped, hub_of, log_of, is_settled, has_failed};
+    ghost use Rattle.ssi_durable.specs.Mirror.Servers.{Serves, HasStepped, hub_of, store_of, log_of, is_settled, has_failed};
 
     /// A server of a store that stands for the lines of its log, and that has no connection yet. `AllocError` if memory runs out.
     pub fn new(
@@ -46,7 +55,7 @@ impl<C: Chains + Drop, M: Marks + Drop, D: Disk + Drop> Server<C, M, D> {
         log: Log<D>,
     ) -> Result<Server<C, M, D>, AllocError>
         ensures serves { (n : ℕ) (lines : List Bytes) → IsReplayed (IsAt C.held M.marked) n lines store
-            → HasAll log lines → IfOk result (λ server. Serves (IsAt C.held M.marked) n lines server []) }
+            → HasAll log lines → IfOk result (λ server. Serves (IsAt C.held M.marked) n (from_start lines) server []) }
         ensures log { IfOk result (λ server. log_of server ≡ log) }
         ensures settled { IfOk result (λ server. is_settled server ≡ true) }
     {
@@ -60,9 +69,9 @@ impl<C: Chains + Drop, M: Marks + Drop, D: Disk + Drop> Server<C, M, D> {
 
     /// Opens a connection, and returns its token, as the hub does.
     pub fn opened(&mut self, alloc: Global) -> Result<u64, AllocError>
-        ensures serves { (n : ℕ) (lines : List Bytes) (calls : List Call) → Serves (IsAt C.held M.marked) n lines self.old calls
-            → MatchResult result (λ t. Serves (IsAt C.held M.marked) n lines self.new (Opened t ∷ calls))
-            (λ _. Serves (IsAt C.held M.marked) n lines self.new calls) }
+        ensures serves { (n : ℕ) (began : Began) (calls : List Call) → Serves (IsAt C.held M.marked) n began self.old calls
+            → MatchResult result (λ t. Serves (IsAt C.held M.marked) n began self.new (Opened t ∷ calls))
+            (λ _. Serves (IsAt C.held M.marked) n began self.new calls) }
         ensures token { IfOk result (λ t. t ≡ next_token (hub_of self.old)) }
         ensures stopped { is_stopped (hub_of self.new) ≡ is_stopped (hub_of self.old) }
         ensures settled { is_settled self.new ≡ is_settled self.old }
@@ -73,10 +82,10 @@ impl<C: Chains + Drop, M: Marks + Drop, D: Disk + Drop> Server<C, M, D> {
 
     /// The connection has sent these bytes. `AllocError` if memory runs out; then nothing has changed.
     pub fn received(&mut self, token: u64, bytes: &[u8]) -> Result<(), AllocError>
-        ensures serves { (n : ℕ) (lines : List Bytes) (calls : List Call) → Serves (IsAt C.held M.marked) n lines self.old calls
+        ensures serves { (n : ℕ) (began : Began) (calls : List Call) → Serves (IsAt C.held M.marked) n began self.old calls
             → MatchResult result
-            (λ _. Serves (IsAt C.held M.marked) n lines self.new (with_call (Received token bytes.now) calls))
-            (λ _. Serves (IsAt C.held M.marked) n lines self.new calls) }
+            (λ _. Serves (IsAt C.held M.marked) n began self.new (with_call (Received token bytes.now) calls))
+            (λ _. Serves (IsAt C.held M.marked) n began self.new calls) }
         ensures ok { OnOk result (Changed (hub_of self.old) (hub_of self.new) token
             (option_map (with_received bytes.now) (buffers_of (hub_of self.old) token))) }
         ensures err { OnErr result (IsSame (hub_of self.old) (hub_of self.new)) }
@@ -93,10 +102,10 @@ impl<C: Chains + Drop, M: Marks + Drop, D: Disk + Drop> Server<C, M, D> {
     /// a full disk: the call may be tried again. After any other fault the log has failed, and nothing more is carried out or given
     /// out.
     pub fn step(&mut self, alloc: Global, token: u64) -> Result<Option<CarriedLine>, LogFault>
-        ensures serves { (n : ℕ) (lines : List Bytes) (calls : List Call) → Serves (IsAt C.held M.marked) n lines self.old calls
-            → MatchResult result (λ stepped. MatchOption stepped (Serves (IsAt C.held M.marked) n lines self.new calls)
-            (λ carried. HasStepped (IsAt C.held M.marked) n lines token calls self.old self.new carried))
-            (λ _. Serves (IsAt C.held M.marked) n lines self.new calls) }
+        ensures serves { (n : ℕ) (began : Began) (calls : List Call) → Serves (IsAt C.held M.marked) n began self.old calls
+            → MatchResult result (λ stepped. MatchOption stepped (Serves (IsAt C.held M.marked) n began self.new calls)
+            (λ carried. HasStepped (IsAt C.held M.marked) n began token calls self.old self.new carried))
+            (λ _. Serves (IsAt C.held M.marked) n began self.new calls) }
         ensures when { IfOk result (λ stepped.
             is_some stepped ≡ may_step (is_stopped (hub_of self.old)) (buffers_of (hub_of self.old) token)) }
         ensures fault { IfErr result (λ fault. is_full fault ≡ false → has_failed self.new ≡ true) }
@@ -110,8 +119,8 @@ impl<C: Chains + Drop, M: Marks + Drop, D: Disk + Drop> Server<C, M, D> {
 
     /// Makes room for the first line that waits of the connection. If the file can't grow, `stop` needs none.
     fn make_room(&mut self, token: u64) -> Result<(), LogFault>
-        ensures serves { (n : ℕ) (lines : List Bytes) (calls : List Call) → Serves (IsAt C.held M.marked) n lines self.old calls
-            → Serves (IsAt C.held M.marked) n lines self.new calls }
+        ensures serves { (n : ℕ) (began : Began) (calls : List Call) → Serves (IsAt C.held M.marked) n began self.old calls
+            → Serves (IsAt C.held M.marked) n began self.new calls }
         ensures hub { self.new.hub ≡ self.old.hub }
         ensures store { self.new.store ≡ self.old.store }
         ensures room { OnOk result (HasRoom self.new.journal) }
@@ -131,11 +140,11 @@ impl<C: Chains + Drop, M: Marks + Drop, D: Disk + Drop> Server<C, M, D> {
     fn carry_out(&mut self, alloc: Global, token: u64) -> Option<CarriedLine>
         requires room { HasRoom self.old.journal }
         requires going { has_failed self.old ≡ false }
-        ensures none { IfNone result ((n : ℕ) (lines : List Bytes) (calls : List Call)
-            → Serves (IsAt C.held M.marked) n lines self.old calls → Serves (IsAt C.held M.marked) n lines self.new calls) }
-        ensures some { IfSome result (λ carried. (n : ℕ) (lines : List Bytes) (calls : List Call)
-            → Serves (IsAt C.held M.marked) n lines self.old calls
-            → HasStepped (IsAt C.held M.marked) n lines token calls self.old self.new carried) }
+        ensures none { IfNone result ((n : ℕ) (began : Began) (calls : List Call)
+            → Serves (IsAt C.held M.marked) n began self.old calls → Serves (IsAt C.held M.marked) n began self.new calls) }
+        ensures some { IfSome result (λ carried. (n : ℕ) (began : Began) (calls : List Call)
+            → Serves (IsAt C.held M.marked) n began self.old calls
+            → HasStepped (IsAt C.held M.marked) n began token calls self.old self.new carried) }
         ensures when { is_some result ≡ may_step (is_stopped (hub_of self.old)) (buffers_of (hub_of self.old) token) }
     {
         note(&self.hub, token, &mut self.noted);
@@ -153,13 +162,57 @@ impl<C: Chains + Drop, M: Marks + Drop, D: Disk + Drop> Server<C, M, D> {
     /// Waits until all lines that count are on the disk. After that the replies to all lines may be given out. If it fails, then
     /// nothing more is carried out or given out.
     pub fn settle(&mut self) -> Result<(), LogFault>
-        ensures serves { (n : ℕ) (lines : List Bytes) (calls : List Call) → Serves (IsAt C.held M.marked) n lines self.old calls
-            → Serves (IsAt C.held M.marked) n lines self.new calls }
+        ensures serves { (n : ℕ) (began : Began) (calls : List Call) → Serves (IsAt C.held M.marked) n began self.old calls
+            → Serves (IsAt C.held M.marked) n began self.new calls }
         ensures settled { OnOk result (is_settled self.new ≡ true) }
         ensures failed { OnErr result (has_failed self.new ≡ true) }
         ensures hub { hub_of self.new ≡ hub_of self.old }
     {
         self.journal.settle()
+    }
+
+    /// Returns a session that has a transaction, as [`Store::open_session`] does.
+    pub fn open_session(&self) -> Option<Session>
+        ensures some { IfSome result (λ s. (c : Course) → IsAt C.held M.marked (store_of self.now) c → is_some (txn_in s c) ≡ true) }
+        ensures none { IfNone result ((c : Course) → IsAt C.held M.marked (store_of self.now) c → (s : Bytes) → txn_in s c ≡ None) }
+    {
+        self.store.open_session()
+    }
+
+    /// Returns what the store holds, as [`Store::contents`] does.
+    pub fn contents(&self) -> Result<Vec<FinalPair>, AllocError>
+        ensures { IfOk result (λ v. (c : Course) → IsAt C.held M.marked (store_of self.now) c → map final_of v.items ≡ contents_after c) }
+    {
+        self.store.contents()
+    }
+
+    /// Returns how many bytes the log has, but for lines that are not on their way to the disk yet.
+    pub fn log_len(&self) -> usize
+        ensures { result ≡ end_of (log_of self.now) }
+    {
+        self.journal.log_len()
+    }
+
+    /// Begins another segment: goes on with this store and its log. All lines that count are on the disk before that. The
+    /// connections stay as they are, with what waits of them and what is to be written to them.
+    pub fn rotate(&mut self, store: Store<C, M>, log: Log<D>)
+        requires { is_settled self.old ≡ true }
+        ensures serves { (n next : ℕ) (began : Began) (lines : List Bytes) (calls : List Call)
+            → Serves (IsAt C.held M.marked) n began self.old calls → IsReplayed (IsAt C.held M.marked) next lines store
+            → HasAll log lines → Serves (IsAt C.held M.marked) next (record { lines = lines; before = calls }) self.new calls }
+        // A crash leaves all lines of the segment that was left.
+        ensures left { (n : ℕ) (began : Began) (calls : List Call) (file : List ℕ)
+            → Serves (IsAt C.held M.marked) n began self.old calls → D.may_leave (disk_of (log_of self.old)) file
+            → (since : List Call) × (calls ≡ since ++ began.before)
+            × (whole_lines (text_of file) ≡ began.lines ++ logged since) }
+        ensures hub { hub_of self.new ≡ hub_of self.old }
+        ensures log { log_of self.new ≡ log }
+        ensures settled { is_settled self.new ≡ true }
+        ensures going { has_failed self.new ≡ false }
+    {
+        self.journal.settled_lines_are_sure();
+        self.store = store;
+        self.journal.go_on_with(log);
     }
 
     /// Returns the bytes that are to be written to the connection: the replies that are not written. None before all lines that
@@ -177,8 +230,8 @@ impl<C: Chains + Drop, M: Marks + Drop, D: Disk + Drop> Server<C, M, D> {
 
     /// The first `count` bytes of [`to_write`](Server::to_write) were written to the connection, or all if there are no more.
     pub fn written(&mut self, token: u64, count: usize)
-        ensures serves { (n : ℕ) (lines : List Bytes) (calls : List Call) → Serves (IsAt C.held M.marked) n lines self.old calls
-            → Serves (IsAt C.held M.marked) n lines self.new (if is_settled self.old
+        ensures serves { (n : ℕ) (began : Began) (calls : List Call) → Serves (IsAt C.held M.marked) n began self.old calls
+            → Serves (IsAt C.held M.marked) n began self.new (if is_settled self.old
             then with_call (Wrote token (first_unsent count (buffers_of (hub_of self.old) token))) calls else calls) }
         ensures written { is_settled self.old ≡ true → Changed (hub_of self.old) (hub_of self.new) token
             (option_map (with_written count) (buffers_of (hub_of self.old) token)) }
@@ -194,8 +247,8 @@ impl<C: Chains + Drop, M: Marks + Drop, D: Disk + Drop> Server<C, M, D> {
 
     /// The connection is gone, as [`Hub::closed`] has it.
     pub fn closed(&mut self, token: u64)
-        ensures serves { (n : ℕ) (lines : List Bytes) (calls : List Call) → Serves (IsAt C.held M.marked) n lines self.old calls
-            → Serves (IsAt C.held M.marked) n lines self.new (with_call (Closed token) calls) }
+        ensures serves { (n : ℕ) (began : Began) (calls : List Call) → Serves (IsAt C.held M.marked) n began self.old calls
+            → Serves (IsAt C.held M.marked) n began self.new (with_call (Closed token) calls) }
         ensures closed { Changed (hub_of self.old) (hub_of self.new) token None }
         ensures settled { is_settled self.new ≡ is_settled self.old }
         ensures failed { has_failed self.new ≡ has_failed self.old }

@@ -56,7 +56,11 @@ pub fn torn_line(alloc: Global) -> Result<(), Wrong> {
 }
 
 fn cuts(alloc: Global, disk: &mut Mixing) -> Result<(), Wrong> {
-    let wanted = Recovered { lines: 12, torn: 8 };
+    let wanted = Recovered {
+        lines: 12,
+        torn: 8,
+        loaded: 31,
+    };
     if recovery_over(alloc, disk, 1, 0) != Ending::Recovered(wanted) {
         return Err(Wrong::OtherLines);
     }

@@ -6,3 +6,4 @@ pub mod LoadedRows
 pub mod FirstLines
 pub mod Texts
 pub mod PlainLines
+pub mod CleanLines

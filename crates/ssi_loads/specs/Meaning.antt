@@ -1,3 +1,4 @@
--- Which lines load the contents of a store, and what a store is after them.
+-- Which lines load the contents of a store, what a store is after them, and why it isn't known whether a segment has them.
 pub mod Loads
 pub mod Loaded
+pub mod Following

@@ -1,6 +1,6 @@
 //! Laws of the first lines of a segment, each proved as the contract of a function that changes nothing.
 
-ghost use Rattle.ssi_loads.specs.Laws.{FirstLinesLoad, FirstLinesArePlain};
+ghost use Rattle.ssi_loads.specs.Laws.{FirstLinesLoad, FirstLinesArePlain, FirstLinesAreClean};
 
 use ssi_line::laws::commands_are_words;
 
@@ -15,6 +15,13 @@ pub fn first_lines_load()
 /// those that follow.
 pub fn first_lines_are_plain()
     ensures { FirstLinesArePlain }
+{
+    commands_are_words();
+}
+
+/// No zero stands in the text of the first lines, so a log may have it.
+pub fn first_lines_are_clean()
+    ensures { FirstLinesAreClean }
 {
     commands_are_words();
 }

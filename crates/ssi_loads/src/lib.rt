@@ -3,9 +3,11 @@
 //! a transaction.
 #![tactic(auto)]
 
+mod following;
 pub mod laws;
 #[cfg(test)]
 mod tests;
 mod writing;
 
+pub use following::{FollowFault, is_followed};
 pub use writing::first_lines;

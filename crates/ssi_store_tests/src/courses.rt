@@ -1,5 +1,6 @@
 //! A course over each pair of representations.
 
+use crate::live::is_same_without_history;
 use crate::runs::{After, Outcome, outcome_of};
 use adya_values::Txn;
 use ssi_reads::{IndexMarks, ListMarks};
@@ -17,9 +18,13 @@ pub(crate) enum Pair {
 }
 
 /// Returns what the course makes over each of the four pairs, the first transaction being this one; nothing if it isn't
-/// the same over all of them, if a dump isn't accepted, or if memory runs out.
+/// the same over all of them, if a store without its history answers otherwise, if a dump isn't accepted, or if memory runs
+/// out.
 pub(crate) fn over_all(alloc: Global, first: Txn, lines: &[&str], after: After) -> Option<Outcome> {
     let outcome = over(alloc, Pair::PlainAndList, first, lines, after)?;
+    if !is_same_without_history(alloc, first, lines)? {
+        return None;
+    }
     for pair in [Pair::PlainAndIndex, Pair::KeysAndList, Pair::KeysAndIndex] {
         match over(alloc, pair, first, lines, after) {
             Some(other) if other == outcome => {}

@@ -17,6 +17,7 @@
 //! - `hostile_lines`: lines that are no commands, and lines that are too long;
 //! - `endless_streams`: inputs that never end;
 //! - `many_sessions`: hundreds of transactions at once;
+//! - `open_sessions`: which session has a transaction;
 //! - `random_lines`: lines made by chance;
 //! - `turn_calls`: turns of connections in memory, which are written again with their answers;
 //! - `hub_calls`: calls of a hub, in the same way.
@@ -44,7 +45,9 @@ mod in_memory;
 mod in_turn;
 mod limits;
 mod lists;
+mod live;
 mod many_sessions;
+mod open_sessions;
 mod random_lines;
 mod runs;
 mod scripts;
@@ -99,6 +102,9 @@ fn write_lines(rt: &HostRuntime, name: &str) -> io::Result<()> {
         "hostile_lines" => write_hostile_lines(rt),
         "endless_streams" => write_endless_streams(rt),
         "many_sessions" => write_many_sessions(rt),
+        "open_sessions" => {
+            write_line(rt, name, open_sessions::are_told(rt.alloc()) == Some(true))
+        }
         "random_lines" => write_line(rt, name, random_lines::are_answered(rt)?),
         "turn_calls" => turn_calls::write_answers(rt, name),
         "hub_calls" => hub_calls::write_answers(rt, name),

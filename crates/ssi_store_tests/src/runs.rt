@@ -15,7 +15,7 @@ pub(crate) enum After {
     Nothing,
     /// A collection, whose reply isn't kept.
     Collect,
-    /// A dump, which the auditor must accept.
+    /// A dump, which the auditor must accept, and whose finals the store must hold.
     Dump,
 }
 
@@ -28,8 +28,8 @@ pub(crate) struct Outcome {
     pub(crate) texts: Texts,
 }
 
-/// Gives the course to the store, ends the store, and returns what came of it; nothing if a dump isn't accepted or memory
-/// runs out.
+/// Gives the course to the store, ends the store, and returns what came of it; nothing if a dump isn't accepted, its
+/// finals aren't what the store holds, or memory runs out.
 pub(crate) fn outcome_of<C: Chains + Drop, M: Marks + Drop>(
     alloc: Global,
     mut store: Store<C, M>,
@@ -67,7 +67,8 @@ pub(crate) fn ended<C: Chains + Drop, M: Marks + Drop>(
     }
 }
 
-/// Does what is done after each command; nothing if a dump isn't accepted or memory runs out.
+/// Does what is done after each command; nothing if a dump isn't accepted, its finals aren't what the store holds, or memory
+/// runs out.
 fn follow<C: Chains + Drop, M: Marks + Drop>(
     alloc: Global,
     store: &mut Store<C, M>,
@@ -80,13 +81,30 @@ fn follow<C: Chains + Drop, M: Marks + Drop>(
             Some(())
         }
         After::Dump => {
-            if are_accepted(&dumped(alloc, store)?) {
+            if are_accepted(&dumped(alloc, store)?) && holds_finals(store)? {
                 Some(())
             } else {
                 None
             }
         }
     }
+}
+
+/// Whether the store holds the finals of a dump; nothing if memory runs out.
+fn holds_finals<C: Chains + Drop, M: Marks + Drop>(store: &Store<C, M>) -> Option<bool> {
+    let contents = store.contents().ok()?;
+    let dump = store.dump().ok()?;
+    let finals = dump.history().finals();
+    if contents.len() != finals.len() {
+        return Some(false);
+    }
+    for (i, row) in contents.iter().enumerate() {
+        let last = finals.at(i);
+        if row.key != last.key || !row.value.same(&last.value) {
+            return Some(false);
+        }
+    }
+    Some(true)
 }
 
 /// Returns the texts of a dump.

@@ -9,6 +9,7 @@
 //!   and writes go as the lists say: `3,w,x` takes at most 3 bytes, would wait, and fails
 //! - `turn T N`: a turn, with room for N bytes; the answer is `open`, `again` if it has more to do at once, why it was closed,
 //!   or `gone`
+//! - `part T`: its end after `stop`; the answer is why it was closed, or `gone`
 //! - `got T`: the answer is what the client has got
 //! - `read T`: the answer is how many bytes of it were read
 
@@ -16,7 +17,7 @@ use crate::answers::{FastStore, new_store};
 use crate::clients::Client;
 use crate::hub_calls::{number, sent, shown};
 use crate::worked::text;
-use ssi_cli::{Closing, Peer, Ready, Users, turn};
+use ssi_cli::{Closing, Peer, Ready, Users, part, turn};
 use ssi_hub::Hub;
 use std::alloc::{AllocError, Global};
 use std::{fs, io};
@@ -72,6 +73,7 @@ impl Tried {
             }
             "connect" => self.connect(alloc, first, rest),
             "turn" => self.take_turn(alloc, number(first), number(rest)),
+            "part" => self.end(alloc, number(first)),
             "got" => match self.connection(number(first)) {
                 Some(connection) => shown(alloc, connection.peer.stream().got()),
                 None => Ok(String::new(alloc)),
@@ -125,10 +127,31 @@ impl Tried {
             Ok(()) if !was_open => "gone",
             Ok(()) if connection.peer.is_due() => "again",
             Ok(()) => "open",
-            Err(Closing::Ended) => "ended",
-            Err(Closing::Broken) => "broken",
-            Err(Closing::Memory) => "memory",
+            Err(why) => named(why),
         };
         format!(in alloc; ": {said}")
+    }
+
+    /// Ends the connection as after `stop`.
+    fn end(&mut self, alloc: Global, token: usize) -> Result<String, AllocError> {
+        let token = token as u64;
+        let Some(connection) = self.connections.iter_mut().find(|c| c.token == token) else {
+            return Ok(String::new(alloc));
+        };
+        let said = if self.hub.is_open(token) {
+            named(part(token, &mut connection.peer, &mut self.hub))
+        } else {
+            "gone"
+        };
+        format!(in alloc; ": {said}")
+    }
+}
+
+fn named(why: Closing) -> &'static str {
+    match why {
+        Closing::Ended => "ended",
+        Closing::Broken => "broken",
+        Closing::Memory => "memory",
+        Closing::Stopped => "stopped",
     }
 }

@@ -10,7 +10,7 @@ use Rattle.ssi_arguments.specs.declared.arguments.LeftOpen.TheVariants.{Keep, Ab
 use Rattle.ssi_arguments.specs.declared.storage.Storage.{Storage}
 use Rattle.ssi_arguments.specs.declared.storage.Storage.TheVariants.{Files, Folder}
 use Rattle.ssi_arguments.specs.Clauses.Storage.{storage_in}
-use Rattle.ssi_arguments.specs.Clauses.Arguments.{Request, pipe, audit, order, script, serve, keep}
+use Rattle.ssi_arguments.specs.Clauses.Arguments.{Request, pipe, audit, order, script, serve, keep, seal}
 
 -- a path that must be there
 abbrev pub file_rule : Text → Rule
@@ -41,6 +41,9 @@ order_app = with_rule (new_app (codes "order")) (file_rule (codes "HISTORY"))
 abbrev pub script_app : App
 script_app = with_texts (new_app (codes "script"))
 
+abbrev pub seal_app : App
+seal_app = with_rule (new_app (codes "seal")) (file_rule (codes "DIR"))
+
 -- `serve` with the files of a history and a certificate
 abbrev pub files_app : App
 files_app =
@@ -50,18 +53,18 @@ files_app =
 -- `serve` with a folder
 abbrev pub folder_app : App
 folder_app =
-    with_rule (with_rule (with_rule (new_app (codes "serve")) (file_rule (codes "SOCKET"))) (flag_rule (codes "abort-on-close")))
-    (value_rule (codes "data") true)
+    with_rule (with_rule (with_rule (with_rule (new_app (codes "serve")) (file_rule (codes "SOCKET")))
+    (flag_rule (codes "abort-on-close"))) (value_rule (codes "segment") false)) (value_rule (codes "data") true)
 
 abbrev pub serve_app : Storage → App
 serve_app Files = files_app
 serve_app Folder = folder_app
 
--- no paths of its own, a version, and four commands
+-- no paths of its own, a version, and five commands
 abbrev pub ssi_app : Storage → App
 ssi_app storage =
-    with_subcommand (with_subcommand (with_subcommand (with_subcommand (with_version (new_app (codes "ssi"))) audit_app.top) order_app.top)
-    script_app.top) (serve_app storage).top
+    with_subcommand (with_subcommand (with_subcommand (with_subcommand (with_subcommand (with_version (new_app (codes "ssi")))
+    audit_app.top) order_app.top) script_app.top) (serve_app storage).top) seal_app.top
 
 -- the command line for these arguments, the first of which is the program's name
 abbrev pub app_for : List Text → App
@@ -90,7 +93,8 @@ left_open_in rows = if is_given rows (codes "abort-on-close") then Abort else Ke
 abbrev pub request_served : Storage → List Row → Request
 request_served Files rows =
     serve (manner_in rows) (path_in rows (codes "SOCKET")) (path_in rows (codes "HISTORY")) (path_in rows (codes "CERTIFICATE"))
-request_served Folder rows = keep (left_open_in rows) (path_in rows (codes "SOCKET")) (path_in rows (codes "data"))
+request_served Folder rows =
+    keep (left_open_in rows) (first_of (codes "segment") rows) (path_in rows (codes "SOCKET")) (path_in rows (codes "data"))
 
 -- the request of a command of this name with these matches
 abbrev pub request_named : Storage → Text → List Row → Request
@@ -98,6 +102,7 @@ request_named storage name rows =
     if bytes_eq name (codes "audit") then audit (path_in rows (codes "HISTORY")) (path_in rows (codes "CERTIFICATE"))
     else if bytes_eq name (codes "order") then order (path_in rows (codes "HISTORY"))
     else if bytes_eq name (codes "script") then script (path_in rows (codes "HISTORY")) (path_in rows (codes "CERTIFICATE"))
+    else if bytes_eq name (codes "seal") then seal (path_in rows (codes "DIR"))
     else request_served storage rows
 
 -- the request in the name and the matches of the command that was met

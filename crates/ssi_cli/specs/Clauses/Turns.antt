@@ -13,7 +13,7 @@ use Rattle.ssi_hub.specs.Clauses.Calls.{Call, Received, Ran, Wrote, Closed, is_o
 use Rattle.ssi_hub.specs.Clauses.Serving.{IsServed}
 use Rattle.ssi_hub.specs.Mirror.{Stands, buffers_of, is_stopped}
 use Rattle.ssi_cli.specs.declared.closing.Closing.{Closing}
-use Rattle.ssi_cli.specs.declared.closing.Closing.TheVariants.{Ended, Broken, Memory}
+use Rattle.ssi_cli.specs.declared.closing.Closing.TheVariants.{Ended, Broken, Memory, Stopped}
 use Rattle.ssi_cli.specs.declared.users.Users.{Users}
 use Rattle.ssi_cli.specs.Meaning.Users.{Deed, Called, Aborted, calls_in, last_user}
 use Rattle.ssi_cli.specs.Clauses.Leaving.{IsAbort, HasNoted, abort_calls}
@@ -74,6 +74,8 @@ IsClosedFor t made before dropped Broken = (dropped ≡ []) × HasUnsent t (made
 -- for what it sent, or for what it is to get
 IsClosedFor t made before dropped Memory =
     (0 < length dropped) ⊎ (HasWaiting t (made ++ before) ⊎ (0 < length (lines_of t made)))
+-- no turn closes it for that
+IsClosedFor t made before dropped Stopped = ⊥
 
 -- a line of the connection was carried out, or it was closed because memory ran out
 abbrev pub HasBegun : {A : Type 0} → ℕ → List Call → Result A Closing → Type 0

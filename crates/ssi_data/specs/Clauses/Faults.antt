@@ -1,5 +1,8 @@
--- Which reason a fault gives.
-use Rattle.std.specs.Prelude.{List, ℕ, ◌++◌, Option, Some, None, codes, decimal}
+-- Which reason a fault gives, and which may pass.
+use Rattle.std.specs.Prelude.{List, ℕ, ℤ, pos, Bool, true, false, ◌++◌, ◌||◌, Option, Some, None, codes, decimal}
+use Rattle.std.specs.Ordering.{int_eq}
+use Rattle.std.specs.IoError.{raw_os_error}
+use Rattle.sqlite_disk.specs.Refusal.{is_no_room}
 use Rattle.ssi_files.specs.declared.fault.FolderFault.{FolderFault}
 use Rattle.ssi_files.specs.declared.fault.FolderFault.TheVariants as folder
 use Rattle.ssi_log.specs.declared.fault.LogFault.{LogFault}
@@ -47,3 +50,14 @@ reason_of (Line number) = Some (codes "line " ++ decimal number)
 reason_of NoEnd = Some (codes "no end")
 reason_of Unusable = Some (codes "unusable")
 reason_of (System error) = None
+
+-- one of the system's numbers for no more open files: in a process, and at all
+abbrev pub is_no_descriptor : Option ℤ → Bool
+is_no_descriptor None = false
+is_no_descriptor (Some code) = int_eq (pos 24) code || int_eq (pos 23) code
+
+-- it may be tried again after this fault
+abbrev pub may_wait : DataFault → Bool
+may_wait Memory = true
+may_wait (System error) = is_no_room error || is_no_descriptor (raw_os_error error)
+may_wait _ = false

@@ -15,4 +15,5 @@ module _ {C M D : Type 0} {g : HeldBy C} {h : MarkedBy M} {disk : Ghosts D} wher
   HasHalted for.Stopped server = (is_stopped (hub_of server) ≡ true) × (is_settled server ≡ true)
   HasHalted (for.Failed fault) server = has_failed server ≡ true
   HasHalted (for.Full why) server = Unit {0}
+  HasHalted for.Rotate server = Unit {0}
   HasHalted for.SocketFault server = Unit {0}

@@ -1,22 +1,18 @@
 -- What a server starts with.
-use Rattle.std.specs.Prelude.{◌≡◌, ℕ, Bool, true, List, [], length, Some, IsTrue}
+use Rattle.std.specs.Prelude.{◌≡◌, ℕ, [], length, IsTrue}
 use Rattle.sqlite_disk.specs.declared.Disk.{Ghosts}
 use Rattle.adya_keys.specs.Meaning.Keys.{Bytes}
 use Rattle.ssi_versions.specs.declared.chains.Chains.{Ghosts as HeldBy}
 use Rattle.ssi_reads.specs.declared.marks.Marks.{Ghosts as MarkedBy}
-use Rattle.ssi_store.specs.Meaning.Courses.{Course, New, txn_in}
+use Rattle.ssi_store.specs.Meaning.Courses.{Course}
 use Rattle.ssi_store.specs.declared.store.Store.{Store}
 use Rattle.ssi_log.specs.Machinery.Standing.{disk_of}
 use Rattle.ssi_log.specs.Meaning.Texts.{text_of}
 use Rattle.ssi_durable.specs.declared.recovery.Recovered.{Recovered}
 use Rattle.ssi_durable.specs.declared.server.Server.{Server}
-use Rattle.ssi_durable.specs.Meaning.Lines.{torn, whole_lines}
-use Rattle.ssi_durable.specs.Meaning.Replays.{Replays}
+use Rattle.ssi_durable.specs.Meaning.Lines.{loads_len, torn, whole_lines}
+use Rattle.ssi_durable.specs.Clauses.Serving.{from_start}
 use Rattle.ssi_durable.specs.Mirror.Servers.{Serves, log_of}
-
--- each session that has a transaction after the course is among these
-abbrev pub HasAllOpen : Course → (Bytes → Bool) → Type 0
-HasAllOpen course is_among = (s : Bytes) (t : ℕ) → txn_in s course ≡ Some t → is_among s ≡ true
 
 module _ {C M D : Type 0} {g : HeldBy C} {h : MarkedBy M} {disk : Ghosts D} where
   -- no wrong answer of the file was taken as true
@@ -24,10 +20,12 @@ module _ {C M D : Type 0} {g : HeldBy C} {h : MarkedBy M} {disk : Ghosts D} wher
   IsClean server = IsTrue (disk.is_clean (disk_of (log_of server)))
 
   -- The server of segment n serves the whole lines of this text, with no call so far. The text is that of the file that
-  -- showed these bytes, if no wrong answer was taken as true. It has so many whole lines, and so many bytes after the last one
+  -- showed these bytes, if no wrong answer was taken as true. It has so many whole lines, so many bytes after the last one, and
+  -- so many bytes of loads
   pub record HasStarted (is_at : Store C M g h → Course → Type 0) (n : ℕ) (seen : Bytes) (server : Server C M D g h disk)
       (recovered : Recovered) (text : Bytes) : Type 0 where
-    pub serves : Serves is_at n (whole_lines text) server []
+    pub serves : Serves is_at n (from_start (whole_lines text)) server []
     pub read : IsClean server → text_of seen ≡ text
     pub lines : recovered.lines ≡ length (whole_lines text)
     pub torn : recovered.torn ≡ length (torn text)
+    pub loaded : recovered.loaded ≡ loads_len (whole_lines text)

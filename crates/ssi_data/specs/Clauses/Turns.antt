@@ -4,7 +4,6 @@ use Rattle.std.specs.List.{AllByRecursion}
 use Rattle.adya_keys.specs.Meaning.Keys.{Bytes}
 use Rattle.ssi_hub.specs.Clauses.Calls.{Call, Closed, lines_of}
 use Rattle.ssi_cli.specs.declared.closing.Closing.{Closing}
-use Rattle.ssi_cli.specs.declared.closing.Closing.TheVariants.{Memory}
 use Rattle.ssi_cli.specs.declared.users.Users.{Users}
 use Rattle.ssi_cli.specs.Clauses.Leaving.{HasNoted}
 use Rattle.ssi_cli.specs.Clauses.Turns.{Exchanged, HasWaiting, IsLeft, IsRunOf, with_end}

@@ -9,7 +9,6 @@ use Rattle.ssi_store.specs.Meaning.Replies.{IsAnswer}
 use Rattle.ssi_line.specs.Meaning.Spelling.{Do, IsLineOf}
 use Rattle.ssi_log.specs.declared.log.Log.{Log}
 use Rattle.ssi_log.specs.Clauses.Faults.{ReadFails, ResumeFails}
-use Rattle.ssi_log.specs.Machinery.Standing.{HasText, synced_of}
 use Rattle.ssi_log.specs.Meaning.Texts.{text_of}
 use Rattle.ssi_durable.specs.declared.fault.LineFault.{LineFault}
 use Rattle.ssi_durable.specs.declared.fault.LineFault.TheVariants as line_fault
@@ -80,3 +79,9 @@ module _ {D : Type 0} {disk : Ghosts D} (old new : Log D disk) where
   RecoveryFails n ahead (fault.Replay e) = IsUntouched × ((text : Bytes) × WasRead text × ReplayFails n (whole_lines text) e)
   RecoveryFails n ahead (fault.Resume e) = (text : Bytes) × WasRead text
       × ResumeFails old new (length (with_ends (whole_lines text)) + ahead + 1) e
+
+  -- why the first lines of segment n weren't carried out and written, with so many bytes of room
+  abbrev pub LoadFails : ℕ → Bytes → ℕ → RecoveryFault → Type 0
+  LoadFails n text ahead (fault.Read e) = ⊥
+  LoadFails n text ahead (fault.Replay e) = (new ≡ old) × ReplayFails n (whole_lines text) e
+  LoadFails n text ahead (fault.Resume e) = ResumeFails old new (length text + ahead + 1) e

@@ -1,5 +1,5 @@
 -- What a server stands for.
-use Rattle.std.specs.Prelude.{◌≡◌, ℕ, List, ◌++◌}
+use Rattle.std.specs.Prelude.{◌≡◌, ℕ, List, [], ◌++◌}
 use Rattle.adya_keys.specs.Meaning.Keys.{Bytes}
 use Rattle.ssi_store.specs.Meaning.Courses.{Course, New}
 use Rattle.ssi_line.specs.Meaning.Steps.{steps_text}
@@ -7,6 +7,16 @@ use Rattle.ssi_hub.specs.Clauses.Calls.{Call, steps_of, written_to}
 use Rattle.ssi_durable.specs.Meaning.Lines.{HasHeader}
 use Rattle.ssi_durable.specs.Meaning.Replays.{Replays}
 use Rattle.ssi_durable.specs.Meaning.Logs.{told, HaveLed}
+
+-- What a server has begun the segment with: the lines that the segment had then, and the calls of the connections before that,
+-- the newest first
+pub record Began : Type 0 where
+  pub lines : List Bytes
+  pub before : List Call
+
+-- with these lines and no call
+abbrev pub from_start : List Bytes → Began
+from_start lines = record { lines = lines; before = [] }
 
 -- The store of segment n has started with these lines and gone on by the calls: it stands for the course to which they have led.
 -- Each step may follow the lines before it that count

@@ -1,5 +1,6 @@
 -- The lines of a text.
-use Rattle.std.specs.Prelude.{◌≡◌, ℕ, ◌==◌, if◌then◌else◌, Bool, false, List, [], ◌∷◌, ◌++◌, codes, decimal}
+use Rattle.std.specs.Prelude.{◌≡◌, ℕ, ◌+◌, ◌==◌, if◌then◌else◌, Bool, false, List, [], ◌∷◌, ◌++◌, length, codes, decimal}
+use Rattle.std.specs.Str.{bytes_eq}
 use Rattle.adya_keys.specs.Meaning.Keys.{Bytes}
 
 -- the whole lines of bytes that follow these of an unfinished line
@@ -32,6 +33,21 @@ HasHeader n (line ∷ lines) = line ≡ header n
 abbrev pub is_comment : Bytes → Bool
 is_comment [] = false
 is_comment (b ∷ bytes) = b == 35
+
+-- it ends the loads of a segment: the lines before it write what the store held at the end of the segment before
+abbrev pub ends_loads : Bytes → Bool
+ends_loads line = bytes_eq line (codes "# loaded")
+
+-- how many bytes lines have, each with its line feed, up to the first that ends the loads, after so many bytes before; 0 if there
+-- is no such line
+abbrev pub loads_after : ℕ → List Bytes → ℕ
+loads_after n [] = 0
+loads_after n (line ∷ lines) =
+    if ends_loads line then n + (length line + 1) else loads_after (n + (length line + 1)) lines
+
+-- how many bytes the loads have
+abbrev pub loads_len : List Bytes → ℕ
+loads_len lines = loads_after 0 lines
 
 -- a front of the lines `most` that has all of `least`
 pub record IsBetween (least lines most : List Bytes) : Type 0 where

@@ -1,5 +1,5 @@
 -- What clauses see of a journal.
-use Rattle.std.specs.Prelude.{◌≤◌, ◌+◌, ℕ, Bool, List, length}
+use Rattle.std.specs.Prelude.{◌≤◌, ◌+◌, Bool, List, length}
 use Rattle.sqlite_disk.specs.declared.Disk.{Ghosts}
 use Rattle.adya_keys.specs.Meaning.Keys.{Bytes}
 use Rattle.ssi_durable.specs.declared.journal.Journal.{Journal}

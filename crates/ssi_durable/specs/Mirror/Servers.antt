@@ -1,5 +1,5 @@
 -- What clauses see of a server.
-use Rattle.std.specs.Prelude.{ℕ, Bool, List, ◌∷◌, [], ◌++◌}
+use Rattle.std.specs.Prelude.{◌≡◌, ℕ, Bool, List, ◌∷◌, [], ◌++◌}
 use Rattle.sqlite_disk.specs.declared.Disk.{Ghosts}
 use Rattle.adya_keys.specs.Meaning.Keys.{Bytes}
 use Rattle.ssi_versions.specs.declared.chains.Chains.{Ghosts as HeldBy}
@@ -17,7 +17,7 @@ use Rattle.ssi_log.specs.declared.log.Log.{Log}
 use Rattle.ssi_durable.specs.declared.journal.Journal.{Journal}
 use Rattle.ssi_durable.specs.declared.server.Server.{Server}
 use Rattle.ssi_durable.specs.Meaning.Logs.{logged, released}
-use Rattle.ssi_durable.specs.Clauses.Serving.{HasGoneOn, IsTold}
+use Rattle.ssi_durable.specs.Clauses.Serving.{Began, HasGoneOn, IsTold}
 use Rattle.ssi_durable.specs.Mirror.Journals.{Keeps}
 
 module _ {C M D : Type 0} {g : HeldBy C} {h : MarkedBy M} {disk : Ghosts D} where
@@ -41,19 +41,21 @@ module _ {C M D : Type 0} {g : HeldBy C} {h : MarkedBy M} {disk : Ghosts D} wher
   abbrev pub has_failed : Server C M D g h disk → Bool
   has_failed s = s.journal.has_failed
 
-  -- The server of segment n has started with these lines, its hub stands for the calls, and its store has gone on by
-  -- them. Its journal has the lines of the start and those of the calls that count, and a crash leaves all on which what was
-  -- written to connections rests
-  pub record Serves (is_at : Store C M g h → Course → Type 0) (n : ℕ) (lines : List Bytes) (s : Server C M D g h disk)
+  -- The server of segment n has begun it so, and its hub stands for the calls. Its store has gone on from the lines of the
+  -- beginning by the calls since then. Its journal has these lines and those of the calls since then that count, and a crash
+  -- leaves all on which what was written to connections since then rests
+  pub record Serves (is_at : Store C M g h → Course → Type 0) (n : ℕ) (began : Began) (s : Server C M D g h disk)
       (calls : List Call) : Type 0 where
+    pub since : List Call
+    pub parts : calls ≡ since ++ began.before
     pub stands : Stands s.hub calls
-    pub gone : HasGoneOn is_at n lines s.store calls
+    pub gone : HasGoneOn is_at n began.lines s.store since
     pub told : IsTold calls
-    pub keeps : Keeps s.journal (lines ++ released calls) (lines ++ logged calls)
+    pub keeps : Keeps s.journal (began.lines ++ released since) (began.lines ++ logged since)
 
   -- one line of the connection was carried out: the first one that waited
-  abbrev pub HasStepped : (Store C M g h → Course → Type 0) → ℕ → List Bytes → ℕ → List Call
+  abbrev pub HasStepped : (Store C M g h → Course → Type 0) → ℕ → Began → ℕ → List Call
       → (old new : Server C M D g h disk) → CarriedLine → Type 0
-  HasStepped is_at n lines t calls old new carried = (line : Bytes) × (step : Step)
+  HasStepped is_at n began t calls old new carried = (line : Bytes) × (step : Step)
       × IsLineStep is_at (buffers_of old.hub t) old.store carried line step new.store
-      × Serves is_at n lines new (with_run (lost_by carried.outcome) t (line ∷ []) (step ∷ []) calls)
+      × Serves is_at n began new (with_run (lost_by carried.outcome) t (line ∷ []) (step ∷ []) calls)

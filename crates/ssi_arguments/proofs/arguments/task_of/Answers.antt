@@ -10,7 +10,7 @@ use Rattle.ssi_arguments.specs.declared.arguments.NoTask.TheVariants.{Text, Memo
 use Rattle.ssi_arguments.specs.Clauses.CommandLine.{app_for, request_in, ssi_app}
 use Rattle.ssi_arguments.specs.Clauses.Storage.{storage_in}
 use Rattle.ssi_arguments.specs.declared.storage.Storage.{Storage}
-use Rattle.ssi_arguments.specs.Clauses.Arguments.{IsRefusal, arguments_of, are_plain, folder_options_of, keep, storage_for}
+use Rattle.ssi_arguments.specs.Clauses.Arguments.{IsRefusal, arguments_of, are_plain, folder_options_of, given, keep, storage_for}
 use Rattle.ssi_arguments.proofs.NoOtherFolders.{asks_to_keep, keeps_at_once, keeps_by_option}
 use Rattle.ssi_arguments.proofs.NoOtherRequests.{asks_request, shows_help, shows_version, simple_and_free}
 use Rattle.ssi_arguments.proofs.Requests.{simple, takes_request, plain_paths}
@@ -115,11 +115,13 @@ returns-clause-kept c =
     ap storage_for (returns-clause-task c).1 ∙ keeps_by_option (map string_bytes c.args.arguments.now)
 
 pub returns-clause-kept_alone : goal.returns-clause-kept_alone
-returns-clause-kept_alone c = λ l f others p e.
+returns-clause-kept_alone c = λ l g f others p e.
     let arguments = map string_bytes c.args.arguments.now in
-    let socket = asks_to_keep arguments l f others p e (returns-clause-task c).0 in
-    let one : arguments_of (keep l socket.0 f) ≡ drop 1 arguments = sym (e ∙ ap (λ ws. codes "serve" ∷ folder_options_of l f ++ ws) socket.1) in
-    sym one ∙ ap arguments_of (sym (returns-clause-asked c (keep l socket.0 f) (rw socket.1 at p) (sym one)))
+    let socket = asks_to_keep arguments l g f others p e (returns-clause-task c).0 in
+    let one : arguments_of (keep l g socket.0 f) ≡ drop 1 arguments =
+    sym (e ∙ ap (λ ws. codes "serve" ∷ folder_options_of l g f ++ ws) socket.1) in
+    let plain = subst (λ ws. are_plain (f ∷ given g ++ ws) ≡ true) socket.1 p in
+    sym one ∙ ap arguments_of (sym (returns-clause-asked c (keep l g socket.0 f) plain (sym one)))
 
 pub returns-clause-kept_at_once : goal.returns-clause-kept_at_once
 returns-clause-kept_at_once c = λ folder has.

@@ -18,10 +18,10 @@ returns-then-is_stopped-clause-run g c =
     run_then_called (IsAt {g = g.C.Chains} {h = g.M.Marks} g.C.Chains.held g.M.Marks.marked) c.args.clients.now.hub
     c.round.new.self.hub c.accept.new.self.hub c.args.store.now c.round.new.store run c.accept.ensures.called in
     run_then_called (IsAt {g = g.C.Chains} {h = g.M.Marks} g.C.Chains.held g.M.Marks.marked) c.args.clients.now.hub
-    c.accept.new.self.hub c.write_all.new.self.hub c.args.store.now c.round.new.store accepted c.write_all.ensures.called
+    c.accept.new.self.hub c.part_all.new.self.hub c.args.store.now c.round.new.store accepted c.part_all.ensures.called
 
 pub returns-then-is_stopped-clause-ends : goal.returns-then-is_stopped-clause-ends
-returns-then-is_stopped-clause-ends g c = c.write_all.ensures.called.stopped ∙ sym c.is_stopped.ensures ∙ c.if-is_stopped.true
+returns-then-is_stopped-clause-ends g c = c.part_all.ensures.called.stopped ∙ sym c.is_stopped.ensures ∙ c.if-is_stopped.true
 
 pub loop-preserved : goal.loop-preserved
 loop-preserved g c =

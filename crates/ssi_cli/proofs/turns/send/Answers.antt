@@ -22,6 +22,8 @@ loop-count-init g c = record {
   counted = counts (buffers_of c.args.hub.now c.args.token) (length c.to_write-left.result.now)
       c.to_write-left.result.now c.to_write-left.ensures refl;
   fewer = λ e. omega (arith, c.to_write-left.type_inv.0);
+  going = λ e. e;
+  less = λ e. omega (arith, c.to_write-left.type_inv.0);
 }
 
 pub returns-in-Later-clause-written : goal.returns-in-Later-clause-written
@@ -68,4 +70,8 @@ loop-count-preserved g c =
           let (n, same, more) = (c.in-Bytes.ensures.steady (c.loop-count.invariant.steady e) some).1 in
           let took : 0 < c.in-Bytes.count = some_bytes c.in-Bytes.count n same more in
           omega (arith, took, c.loop-count.invariant.fewer e, c.in-Bytes.ensures.bytes.0, many);
+      going = λ e. (c.write.ensures.taken (c.loop-count.invariant.going e) some).0;
+      less = λ e.
+          let took : 0 < c.in-Bytes.count = (c.in-Bytes.ensures.taken (c.loop-count.invariant.going e) some).1 in
+          omega (arith, took, c.loop-count.invariant.less e, c.in-Bytes.ensures.bytes.0, many);
     }

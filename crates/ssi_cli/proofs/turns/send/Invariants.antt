@@ -17,4 +17,6 @@ invariant-loop-count g l = record {
   apart : g.S.Read.remaining (stream_of l.peer) ≡ g.S.Read.remaining (stream_of l.initial.peer);
   counted : MatchOption (buffers_of l.hub l.token) (l.left ≡ 0) (λ b. l.left ≡ length b.unsent);
   fewer : g.S.Stream.is_steady (stream_of l.initial.peer) ≡ true → l.left + l._count ≤ 18446744073709551615;
+  going : g.S.Stream.never_waits (stream_of l.initial.peer) ≡ true → g.S.Stream.never_waits (stream_of l.peer) ≡ true;
+  less : g.S.Stream.never_waits (stream_of l.initial.peer) ≡ true → l.left + l._count ≤ 18446744073709551615;
 }

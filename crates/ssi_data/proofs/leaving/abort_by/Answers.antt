@@ -17,16 +17,16 @@ returns-then-is_err-clause-aborted g c =
     not_done is_at {E = LogFault} c.args.server.now c.hand_on.new.server c.args.session (Ok false) (λ h. false≢true h)
     (only_opened is_at c.args.server.now c.opened.new.self
     c.hand_on.new.server c.args.session c.in-Ok.token c.in-Ok.ensures.token c.in-Ok.ensures.serves
-    (λ n lines calls s. when_err _ c.hand_on.result (sym c.is_err.ensures.value ∙ c.if-is_err.true)
-    (c.hand_on.ensures.serves n lines calls s)))
+    (λ n began calls s. when_err _ c.hand_on.result (sym c.is_err.ensures.value ∙ c.if-is_err.true)
+    (c.hand_on.ensures.serves n began calls s)))
 
 pub returns-in-Ok-stepped-clause-aborted : goal.returns-in-Ok-stepped-clause-aborted
 returns-in-Ok-stepped-clause-aborted g c =
     carried_maybe (IsAt {g = g.C.Chains} {h = g.M.Marks} g.C.Chains.held g.M.Marks.marked) c.args.server.now
     c.opened.new.self c.hand_on.new.server c.step-stepped.new.self c.closed.new.self c.args.session c.args.line.now
     c.in-Ok.token c.requires c.in-Ok.ensures.token c.in-Ok.ensures.serves
-    (λ n lines calls s. when_ok _ c.hand_on.result (sym c.is_err.ensures.value ∙ c.if-is_err.false)
-    (c.hand_on.ensures.serves n lines calls s))
+    (λ n began calls s. when_ok _ c.hand_on.result (sym c.is_err.ensures.value ∙ c.if-is_err.false)
+    (c.hand_on.ensures.serves n began calls s))
     c.closed.ensures.serves LogFault c.in-Ok-stepped.carried c.is_some.result c.is_some.ensures
     c.in-Ok-stepped.ensures.serves
 
@@ -37,8 +37,8 @@ returns-in-Err-clause-aborted g c =
     (sent_only is_at c.args.server.now
     c.opened.new.self c.hand_on.new.server c.step-stepped.new.self c.closed.new.self c.args.session c.args.line.now
     c.in-Ok.token c.requires c.in-Ok.ensures.token c.in-Ok.ensures.serves
-    (λ n lines calls s. when_ok _ c.hand_on.result (sym c.is_err.ensures.value ∙ c.if-is_err.false)
-    (c.hand_on.ensures.serves n lines calls s))
+    (λ n began calls s. when_ok _ c.hand_on.result (sym c.is_err.ensures.value ∙ c.if-is_err.false)
+    (c.hand_on.ensures.serves n began calls s))
     c.closed.ensures.serves c.in-Err.ensures.serves)
 
 pub returns-in-Err-clause-fault : goal.returns-in-Err-clause-fault

@@ -36,3 +36,12 @@ loop-preserved g c =
     c.args.clients.now.server c.end_all.new.self.server c.accept.new.self.server (both (IsAt {g = g.C.Chains} {h = g.M.Marks} g.C.Chains.held g.M.Marks.marked) c.args.clients.now.users c.round.new.self.users c.end_all.new.self.users
     c.args.clients.now.server c.round.new.self.server c.end_all.new.self.server (both (IsAt {g = g.C.Chains} {h = g.M.Marks} g.C.Chains.held g.M.Marks.marked) c.args.clients.now.users c.loop.clients.users c.round.new.self.users
     c.args.clients.now.server c.loop.clients.server c.round.new.self.server c.loop.invariant c.round.ensures.on) c.end_all.ensures.on) c.accept.ensures)
+
+pub returns-then-is_due-clause-on : goal.returns-then-is_due-clause-on
+returns-then-is_due-clause-on g c =
+    unseen (IsAt {g = g.C.Chains} {h = g.M.Marks} g.C.Chains.held g.M.Marks.marked) c.args.clients.now.users c.accept.new.self.users
+    c.news.new.self.users c.args.clients.now.server c.accept.new.self.server c.news.new.self.server c.news.ensures.users
+    c.news.ensures.server (both (IsAt {g = g.C.Chains} {h = g.M.Marks} g.C.Chains.held g.M.Marks.marked) c.args.clients.now.users c.end_all.new.self.users c.accept.new.self.users
+    c.args.clients.now.server c.end_all.new.self.server c.accept.new.self.server (both (IsAt {g = g.C.Chains} {h = g.M.Marks} g.C.Chains.held g.M.Marks.marked) c.args.clients.now.users c.round.new.self.users c.end_all.new.self.users
+    c.args.clients.now.server c.round.new.self.server c.end_all.new.self.server (both (IsAt {g = g.C.Chains} {h = g.M.Marks} g.C.Chains.held g.M.Marks.marked) c.args.clients.now.users c.loop.clients.users c.round.new.self.users
+    c.args.clients.now.server c.loop.clients.server c.round.new.self.server c.loop.invariant c.round.ensures.on) c.end_all.ensures.on) c.accept.ensures)

@@ -25,7 +25,7 @@ loop-count-init g c = record {
   none = λ e. refl;
   carried = carried_none (IsAt {g = g.C.Chains} {h = g.M.Marks} g.C.Chains.held g.M.Marks.marked) c.args.token
       (MayRun (is_stopped (hub_of c.args.server.now)) (buffers_of (hub_of c.args.server.now) c.args.token) × (0 < 0))
-      c.args.users.now c.args.server.now c.args.server.now (λ h. absurd (omega (arith, h.1))) (λ n lines calls s. s);
+      c.args.users.now c.args.server.now c.args.server.now (λ h. absurd (omega (arith, h.1))) (λ n began calls s. s);
   table = refl;
 }
 

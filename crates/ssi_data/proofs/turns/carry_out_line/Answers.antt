@@ -1,6 +1,5 @@
-use Rattle.std.proofs.Common.{◌<◌, Option, Some, List, length, sym, subst, OnOk}
+use Rattle.std.proofs.Common.{◌<◌, Option, Some, length, sym, subst, OnOk}
 use Rattle.ssi_store.specs.Mirror.Stores.{IsAt}
-use Rattle.ssi_hub.specs.Clauses.Calls.{Call}
 use Rattle.ssi_cli.specs.declared.users.Users.{Users}
 use Rattle.ssi_data.specs.Clauses.Calls.{Makes}
 use Rattle.ssi_data.specs.Clauses.Turns.{HasCarriedOut}

@@ -1,6 +1,5 @@
-use Rattle.std.proofs.Common.{◌≡◌, ◌∙◌, Some, List, ℕ, cond, refl, sym, ap}
+use Rattle.std.proofs.Common.{◌∙◌, Some, cond, sym, ap}
 use Rattle.ssi_store.specs.Mirror.Stores.{IsAt}
-use Rattle.ssi_hub.specs.Clauses.Buffers.{Buffers}
 use Rattle.ssi_hub.specs.Mirror.{buffers_of, is_stopped}
 use Rattle.ssi_durable.specs.Mirror.Servers.{hub_of}
 use Rattle.ssi_cli.specs.Meaning.Users.{is_it}

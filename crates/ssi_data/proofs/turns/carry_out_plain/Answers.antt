@@ -1,4 +1,4 @@
-use Rattle.std.proofs.Common.{None, refl}
+use Rattle.std.proofs.Common.{None}
 use Rattle.ssi_store.specs.Mirror.Stores.{IsAt}
 use Rattle.ssi_data.proofs.Turning.{carried_maybe, carried_none, if_ok, if_err, nobody}
 use Rattle.ssi_data.proofs.turns.carry_out_plain.Goals as goal

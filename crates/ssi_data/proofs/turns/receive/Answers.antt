@@ -1,4 +1,4 @@
-use Rattle.std.proofs.Common.{◌≡◌, ◌<◌, List, [], ◌∷◌, length, take, ℕ, refl, sym, subst, pos_of_ne-zero, length-take-le, inl, inr}
+use Rattle.std.proofs.Common.{◌<◌, [], length, take, ℕ, refl, sym, subst, pos_of_ne-zero, length-take-le, inl, inr}
 use Rattle.ssi_store.specs.Mirror.Stores.{IsAt}
 use Rattle.ssi_hub.specs.Clauses.Calls.{Received, Closed}
 use Rattle.ssi_cli.specs.declared.closing.Closing.TheVariants.{Memory}

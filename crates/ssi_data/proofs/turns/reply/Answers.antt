@@ -1,6 +1,5 @@
-use Rattle.std.proofs.Common.{◌≡◌, ◌∙◌, true, sym}
 use Rattle.ssi_store.specs.Mirror.Stores.{IsAt}
-use Rattle.ssi_cli.specs.Mirror.{stream_of, input_of}
+use Rattle.ssi_cli.specs.Mirror.{stream_of}
 use Rattle.ssi_data.proofs.Turning.{replied, replied_broken, same_error}
 use Rattle.ssi_data.proofs.turns.reply.Goals as goal
 

@@ -2,7 +2,6 @@ use Rattle.std.proofs.Common.{◌≡◌, ◌<◌, ◌∙◌, ℕ, List, [], leng
 use Rattle.ssi_store.specs.Mirror.Stores.{IsAt}
 use Rattle.ssi_cli.specs.Clauses.Turns.{Exchanged}
 use Rattle.ssi_cli.specs.Mirror.{stream_of}
-use Rattle.ssi_data.specs.Mirror.{to_send}
 use Rattle.ssi_data.proofs.Makings.{none_exchanged, makes_none, is_sent, sends, sends_less, stays, breaks, some_bytes}
 use Rattle.ssi_data.proofs.turns.send.Goals as goal
 

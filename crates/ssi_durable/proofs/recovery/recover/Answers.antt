@@ -4,7 +4,7 @@ use Rattle.adya_text.specs.Meaning.Texts.{with_ends}
 use Rattle.ssi_store.specs.Mirror.Stores.{IsAt}
 use Rattle.ssi_log.specs.Machinery.Standing.{HasText}
 use Rattle.ssi_log.specs.Meaning.Texts.{text_of}
-use Rattle.ssi_durable.specs.Meaning.Lines.{whole_lines}
+use Rattle.ssi_durable.specs.Meaning.Lines.{loads_len, whole_lines}
 use Rattle.ssi_durable.specs.Clauses.Recovery.{IsReplayed}
 use Rattle.ssi_durable.proofs.Recovering.{take_whole, torn_len, whole_fits, whole_none, resumed_keeps, untouched_keeps}
 use Rattle.ssi_durable.proofs.WholeLines.{all_plain, falls}
@@ -98,6 +98,7 @@ returns-clause-recovered g c = λ at.
       },
       c.in-Ok-replay.ensures.lines ∙ ap (λ (l : Bytes). length (whole_lines l)) same,
       omega (arith, torn_len items n n_is, c.len.ensures, c.in-Ok.text.ok.0),
+      c.in-Ok-replay.ensures.loaded ∙ ap (λ (l : Bytes). loads_len (whole_lines l)) same,
     )
 
 pub returns-clause-room : goal.returns-clause-room

@@ -1,6 +1,6 @@
 -- The server and the table have gone on.
 use Rattle.ssi_store.specs.Mirror.Stores.{IsAt}
-use Rattle.ssi_data.specs.Mirror.{GoOn, server_of}
+use Rattle.ssi_data.specs.Mirror.{GoOn}
 use Rattle.ssi_data.proofs.clients.Clients.accept.Given as goal
 
 abbrev pub invariant-loop : goal.invariant-loop

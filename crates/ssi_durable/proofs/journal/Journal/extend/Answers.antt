@@ -1,4 +1,4 @@
-use Rattle.std.proofs.Common.{Bool, false, true, refl, subst, sym, ◌∙◌, List, ℕ, ◌≡◌}
+use Rattle.std.proofs.Common.{false, true, refl, subst, sym, ◌∙◌, List, ℕ}
 use Rattle.ssi_log.specs.declared.log.Log.{Log}
 use Rattle.ssi_durable.specs.Clauses.Journals.{IsJournal}
 use Rattle.ssi_durable.proofs.Journaling.{stays, syncs, fails_to_stay, with_flags, full_is_same, may_go_on}

@@ -1,4 +1,4 @@
-use Rattle.std.proofs.Common.{Bool, false, true, refl, subst, sym, List, ℕ, [], ◌++◌, ◌≡◌}
+use Rattle.std.proofs.Common.{false, true, refl, subst, sym, List, ℕ, ◌++◌}
 use Rattle.ssi_log.specs.declared.log.Log.{Log}
 use Rattle.ssi_log.specs.Meaning.Texts.{HasNoZero}
 use Rattle.ssi_log.specs.Meaning.Crashes.{Keeps}

@@ -1,4 +1,4 @@
-use Rattle.std.proofs.Common.{List, [], ◌∷◌, ◌++◌, ◌≡◌, true, refl, sym, ◌∙◌, ap, subst}
+use Rattle.std.proofs.Common.{[], ◌∷◌, ◌++◌, ◌≡◌, sym, ◌∙◌, subst}
 use Rattle.std.proofs.Common.{◌≤◌}
 use Rattle.std.specs.List.{All}
 use Rattle.adya_keys.specs.Meaning.Keys.{Bytes}
@@ -12,21 +12,21 @@ use Rattle.ssi_durable.proofs.Serving.{ready_has, noted_is, was_false, was_true,
 use Rattle.ssi_durable.proofs.server.Server.carry_out.Goals as goal
 
 pub returns-then-not-carried-clause-some : goal.returns-then-not-carried-clause-some
-returns-then-not-carried-clause-some g c = λ n lines calls was.
+returns-then-not-carried-clause-some g c = λ n began calls was.
     let self = c.args.self.now in
     let now = record self { hub = c.step.new.self; store = c.step.new.store; noted = c.note.new.to } in
     let (line, step, is, stands, more) = c.in-Some.ensures.stands calls was.stands in (
       line,
       step,
       is,
-      line_served (IsAt g.C.Chains.held g.M.Marks.marked) n lines self now calls (lost_by c.in-Some.carried.outcome) c.args.token line step
+      line_served (IsAt g.C.Chains.held g.M.Marks.marked) n began self now calls (lost_by c.in-Some.carried.outcome) c.args.token line step
           c.commands_are_words.ensures.lettered was is.made is.logged stands more
-          (not_counted self.journal (lines ++ released calls) (lines ++ logged calls) line step (is.counted ∙ was_false c.in-Some.carried.counted c.if-not-carried.true)
+          (not_counted self.journal (began.lines ++ released was.since) (began.lines ++ logged was.since) line step (is.counted ∙ was_false c.in-Some.carried.counted c.if-not-carried.true)
           was.keeps),
     )
 
 pub returns-clause-some : goal.returns-clause-some
-returns-clause-some g c = λ n lines calls was.
+returns-clause-some g c = λ n began calls was.
     let self = c.args.self.now in
     let now = record self { hub = c.step.new.self; store = c.step.new.store; noted = c.note.new.to; journal = c.add.new.self } in
     let (line, step, is, stands, more) = c.in-Some.ensures.stands calls was.stands in
@@ -41,11 +41,11 @@ returns-clause-some g c = λ n lines calls was.
       line,
       step,
       is,
-      line_served (IsAt g.C.Chains.held g.M.Marks.marked) n lines self now calls (lost_by c.in-Some.carried.outcome) c.args.token line step
+      line_served (IsAt g.C.Chains.held g.M.Marks.marked) n began self now calls (lost_by c.in-Some.carried.outcome) c.args.token line step
           c.commands_are_words.ensures.lettered was is.made is.logged stands more
-          (is_counted c.add.new.self (lines ++ released calls) (lines ++ logged calls) line step counted
-          (subst (λ (b : Bytes). Keeps c.add.new.self (lines ++ released calls) ((lines ++ logged calls) ++ (b ∷ []))) bytes
-          (c.add.ensures (lines ++ released calls) (lines ++ logged calls) was.keeps
+          (is_counted c.add.new.self (began.lines ++ released was.since) (began.lines ++ logged was.since) line step counted
+          (subst (λ (b : Bytes). Keeps c.add.new.self (began.lines ++ released was.since) ((began.lines ++ logged was.since) ++ (b ∷ []))) bytes
+          (c.add.ensures (began.lines ++ released was.since) (began.lines ++ logged was.since) was.keeps
           (plain_of c.bytes.result.now (subst (λ (t : Bytes). All (λ b. 32 ≤ b) t) (sym bytes) printed))
           (clean_of c.bytes.result.now (subst (λ (t : Bytes). All (λ b. 32 ≤ b) t) (sym bytes) printed))))),
     )

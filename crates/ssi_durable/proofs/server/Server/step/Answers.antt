@@ -1,6 +1,5 @@
-use Rattle.std.proofs.Common.{List, [], ◌∷◌, refl, sym, subst}
+use Rattle.std.proofs.Common.{subst}
 use Rattle.ssi_hub.specs.declared.hub.Hub.{Hub}
-use Rattle.ssi_hub.specs.declared.outcome.CarriedLine.{CarriedLine}
 use Rattle.ssi_hub.specs.Clauses.Stepping.{IsLineStep}
 use Rattle.ssi_hub.specs.Mirror.{buffers_of}
 use Rattle.ssi_store.specs.Mirror.Stores.{IsAt}
@@ -8,11 +7,11 @@ use Rattle.ssi_durable.proofs.Serving.{option_by}
 use Rattle.ssi_durable.proofs.server.Server.step.Goals as goal
 
 pub returns-clause-serves : goal.returns-clause-serves
-returns-clause-serves g c = λ n lines calls was.
-    let mid = c.make_room.ensures.serves n lines calls was in
-    option_by c.carry_out.result (λ f. f n lines calls mid)
+returns-clause-serves g c = λ n began calls was.
+    let mid = c.make_room.ensures.serves n began calls was in
+    option_by c.carry_out.result (λ f. f n began calls mid)
     (λ carried f.
-    let (line, step, is, serves) = f n lines calls mid in (
+    let (line, step, is, serves) = f n began calls mid in (
       line,
       step,
       subst (λ (h : Hub). IsLineStep (IsAt g.C.Chains.held g.M.Marks.marked) (buffers_of h c.args.token) c.args.self.now.store carried

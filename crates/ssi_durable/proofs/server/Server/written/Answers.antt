@@ -1,4 +1,4 @@
-use Rattle.std.proofs.Common.{Bool, List, cond, refl, sym, ◌∙◌, subst, ◌++◌}
+use Rattle.std.proofs.Common.{Bool, cond, refl, sym, ◌∙◌, subst, ◌++◌}
 use Rattle.ssi_hub.specs.Clauses.Buffers.{first_unsent}
 use Rattle.ssi_hub.specs.Clauses.Calls.{Wrote, with_call}
 use Rattle.ssi_hub.specs.Mirror.{buffers_of}
@@ -9,13 +9,13 @@ use Rattle.ssi_durable.proofs.Serving.{written}
 use Rattle.ssi_durable.proofs.server.Server.written.Goals as goal
 
 pub returns-then-is_settled-clause-serves : goal.returns-then-is_settled-clause-serves
-returns-then-is_settled-clause-serves g c = λ n lines calls was.
+returns-then-is_settled-clause-serves g c = λ n began calls was.
     let self = c.args.self.now in
     let now = record self { hub = c.written.new.self } in
     let bytes = first_unsent c.args.count (buffers_of self.hub c.args.token) in
     let settled = sym c.is_settled.ensures ∙ c.if-is_settled.true in
-    subst (λ (b : Bool). Serves (IsAt g.C.Chains.held g.M.Marks.marked) n lines now (cond b (with_call (Wrote c.args.token bytes) calls) calls))
+    subst (λ (b : Bool). Serves (IsAt g.C.Chains.held g.M.Marks.marked) n began now (cond b (with_call (Wrote c.args.token bytes) calls) calls))
     (sym settled)
-    (written (IsAt g.C.Chains.held g.M.Marks.marked) n lines self now calls c.args.token bytes was
+    (written (IsAt g.C.Chains.held g.M.Marks.marked) n began self now calls c.args.token bytes was
     (c.written.ensures.stands calls was.stands) refl refl
-    (c.settled_lines_are_sure.ensures settled (lines ++ released calls) (lines ++ logged calls) was.keeps))
+    (c.settled_lines_are_sure.ensures settled (began.lines ++ released was.since) (began.lines ++ logged was.since) was.keeps))
