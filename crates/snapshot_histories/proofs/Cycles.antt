@@ -61,7 +61,7 @@ module _ (h : History) (snapshot_of : ℕ → ℕ) (checked : IsChecked h) (snap
 
   -- an edge leads from a transaction that committed before the other began, or is an anti-dependency between
   -- concurrent ones
-  step : (kind : Kind) (k : List ℕ) (a b : ℕ) → a ≢ b → Depends h kind k a b
+  pub step : (kind : Kind) (k : List ℕ) (a b : ℕ) → a ≢ b → Depends h kind k a b
       → (stamp_in h a ≤ snapshot_of b) ⊎ ((kind ≡ Rw) × AreConcurrent h snapshot_of a b)
   step Ww k a b ne (q, at, next) =
       let first = snap.begins_first a (installer_committed h checked k q a at) in

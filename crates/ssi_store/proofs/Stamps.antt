@@ -100,7 +100,7 @@ pub stamp_in_log : (edition : Edition) (unfinished : List ℕ) (t n : ℕ) (log 
 stamp_in_log edition unfinished t n log s e = ap (λ l. suc (place l t)) (commits_of_events log) ∙ stamp_is t n log s e
 
 -- who has committed keeps its stamp
-stamp_stays : (t : ℕ) (a : Act) (log : List Act) → Sound (a ∷ log) → has_committed t log ≡ true
+pub stamp_stays : (t : ℕ) (a : Act) (log : List Act) → Sound (a ∷ log) → has_committed t log ≡ true
     → stamp t (a ∷ log) ≡ stamp t log
 stamp_stays t (Begins u) log s c = refl
 stamp_stays t (Writes u j d) log s c = refl
