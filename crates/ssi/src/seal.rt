@@ -100,15 +100,15 @@ fn seal_one(
     number: SegmentNumber,
     next: SegmentNumber,
 ) -> Result<bool, SealFault> {
+    if !is_next(number, next) {
+        return Ok(false);
+    }
     let alloc = rt.alloc();
     let history = path_of(alloc, folder, number, "history")?;
     let certificate = path_of(alloc, folder, number, "certificate")?;
     if fs::exists(rt, history.as_str())? && fs::exists(rt, certificate.as_str())? {
         return Ok(true);
     }
-    let Some(following) = number.next() else {
-        return Ok(false);
-    };
     let bytes = fs::read(rt, path_of(alloc, folder, number, "log")?.as_str())?;
     let next_bytes = fs::read(rt, path_of(alloc, folder, next, "log")?.as_str())?;
     let text = text_of(&bytes);
@@ -118,13 +118,21 @@ fn seal_one(
         &mut store,
         number.get(),
         text,
-        following.get(),
+        next.get(),
         text_of(&next_bytes),
     )?;
     if is_same {
         certify(rt, number, text, &history, &certificate)?;
     }
     Ok(is_same)
+}
+
+/// Returns whether no segment between them is missing.
+fn is_next(number: SegmentNumber, next: SegmentNumber) -> bool {
+    match number.next() {
+        Some(following) => following == next,
+        None => false,
+    }
 }
 
 /// Writes the history and a certificate of what these lines do.
