@@ -7,6 +7,7 @@ import threading
 import time
 
 from data_server import SECONDS, Tried, check, home, run, scripted
+from reference import read_certificate, read_history
 
 LEAST = 65536  # bytes, the least that `--segment` takes
 OPTION = ["--segment", str(LEAST)]
@@ -145,6 +146,42 @@ def texts_of(it, number):
     return [it.path("%08d.%s" % (number, ending)) for ending in ("history", "certificate")]
 
 
+def bytes_of(path):
+    with open(path, "rb") as file:
+        return file.read()
+
+
+def is_right(event, contents):
+    """Whether a read or a scan finds what the store holds; a write changes that."""
+    if event.write:
+        (key, _, _), value = event.write
+        contents[key] = value
+        return True
+    seen = {key: value for (key, _, _), value in event.seen if value is not None}
+    if event.span:
+        low, high = event.span
+        return seen == {key: value for key, value in contents.items() if low <= key <= high and value is not None}
+    return all(contents.get(key) == value for key, value in seen.items())
+
+
+def check_serial(it, finished):
+    """The certificates one after the other, each without the transactions that load, are an order in which all others may run
+    one at a time over all segments."""
+    contents, wrong = {}, []
+    for number in finished:
+        lines = lines_of(it, number)
+        loads = lines[: lines.index("# loaded")].count("begin load")
+        history, certificate = map(bytes_of, texts_of(it, number))
+        events = {}
+        for event in read_history(history).events:
+            events.setdefault(event.txn, []).append(event)
+        own = [txn for txn in read_certificate(certificate).txns if txn > loads]
+        wrong += [(number, txn) for txn in own if not all(is_right(event, contents) for event in events[txn])]
+    held = {key: value for key, value in contents.items() if value is not None}
+    check("seal: one serial history over all segments", [], wrong)
+    check("seal: what the last one holds", finals_of(lines_of(it, finished[-1]))[0], held)
+
+
 def try_seal(it):
     """The segments but the last get texts to which the audit says yes, while a server uses the folder. A segment that doesn't
     begin with what the one before ended with is found."""
@@ -158,6 +195,7 @@ def try_seal(it):
             check("seal: the history of segment %d" % number, history, file.read())
     check("seal: the last segment", [False, False], [os.path.exists(text) for text in texts_of(it, last)])
     check("seal: once more", ("yes\n", 0), sealed(it))
+    check_serial(it, finished)
     one = finished[1]
     for text in texts_of(it, one) + texts_of(it, one + 1):
         os.remove(text)
@@ -173,6 +211,10 @@ def try_seal(it):
         file.seek(key)
         file.write(begun[key : key + 1])
     check("seal: the key as it was", ("yes\n", 0), sealed(it))
+    hidden = it.path("hidden")
+    os.rename(it.path("%08d.log" % one), hidden)
+    check("seal: a segment that is missing", ("no %d\n" % (one + 1), 1), sealed(it))
+    os.rename(hidden, it.path("%08d.log" % one))
     out, err, status = run(Tried.program, "seal", it.path("nothing"))
     check("seal: no folder", ("", 3), (out, status))
     check("seal: it says so", True, err.startswith("ssi: data fault: %s: " % it.path("nothing")))

@@ -1,0 +1,10 @@
+pub mod Parts
+pub mod QuietMoments
+pub mod Fronts
+pub mod LaterActs
+pub mod EarlyValues
+pub mod Courses
+pub mod HeldContents
+pub mod LogsInTwo
+pub mod LoadedSegments
+pub mod Chains
