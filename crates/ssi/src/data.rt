@@ -5,7 +5,7 @@ use crate::sockets::{bound_anew, polled};
 use mio::Poll;
 use mio::net::UnixListener;
 use sqlite_disk::Unknown;
-use ssi_cli::{AtClose, Fault, Status, listen, new_store};
+use ssi_cli::{AtClose, Fault, Status, listen, new_live_store};
 use ssi_data::{
     Clients, DataFault, Halt, Rotation, Segment, Started, abort_open, open_last, rotate, serve,
     start,
@@ -13,15 +13,19 @@ use ssi_data::{
 use ssi_durable::{Recovered, Server};
 use ssi_files::{FileDisk, Folder, SegmentNumber};
 use ssi_reads::IndexMarks;
+use ssi_store::LiveStore;
 use ssi_versions::KeyChains;
 use std::{fs, io};
 
 /// What a file held that was found, nobody knows.
 type FoundDisk = FileDisk<Unknown>;
 
-type FileServer = Server<KeyChains, IndexMarks, FoundDisk>;
+/// Its history is the log, so the store keeps none.
+type LoggedStore = LiveStore<KeyChains, IndexMarks>;
 
-type FileClients = Clients<KeyChains, IndexMarks, FoundDisk>;
+type FileServer = Server<LoggedStore, FoundDisk>;
+
+type FileClients = Clients<LoggedStore, FoundDisk>;
 
 /// Where a store keeps its data, and how its connections are served.
 #[derive(Clone, Copy)]
@@ -88,7 +92,7 @@ impl<'a> DataService<'a> {
             count,
         } = open_last(rt, &mut folder, Unknown)?;
         let alloc = rt.alloc();
-        let store = new_store(alloc);
+        let store = new_live_store(alloc);
         let Started {
             mut server,
             recovered,
@@ -155,7 +159,7 @@ impl<'a> DataService<'a> {
             clients.put_off();
             return Ok(());
         };
-        let store = new_store(rt.alloc());
+        let store = new_live_store(rt.alloc());
         match rotate(rt, &mut segments.folder, number, store, clients) {
             Ok(Rotation::Begun) => {
                 segments.last = number;

@@ -3,7 +3,7 @@
 use crate::output_file::OutputFile;
 use crate::problem::Problem;
 use devices::Watched;
-use ssi_cli::{CommandsFault, Fault, ScriptFault, Status, carry_out_commands, new_store};
+use ssi_cli::{CommandsFault, Fault, ScriptFault, Status, carry_out_commands, new_live_store};
 use ssi_data::DataFault;
 use ssi_files::{Ending, SegmentNumber, file_name, number_of};
 use ssi_loads::{FollowFault, is_followed};
@@ -112,7 +112,7 @@ fn seal_one(
     let bytes = fs::read(rt, path_of(alloc, folder, number, "log")?.as_str())?;
     let next_bytes = fs::read(rt, path_of(alloc, folder, next, "log")?.as_str())?;
     let text = text_of(&bytes);
-    let mut store = new_store(alloc);
+    let mut store = new_live_store(alloc);
     let is_same = is_followed(
         alloc,
         &mut store,

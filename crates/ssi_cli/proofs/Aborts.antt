@@ -23,7 +23,7 @@ own t = eq-eqb t t refl
 -- ---- one abort
 
 -- a session of which nothing is carried out
-pub no_abort : (hub : Hub) (session : List ℕ) (calls : List Call) → Stands hub calls → IsAbort session [] calls
+pub no_abort : (hub : Hub) (session : List ℕ) (calls : List Call) → Stands true hub calls → IsAbort session [] calls
 no_abort hub session calls s = record { token = next_token hub; new = s.given; own = tt; sent = inl refl }
 
 open_now : (t : ℕ) (calls : List Call) → is_open t (Opened t ∷ calls) ≡ true
@@ -31,13 +31,13 @@ open_now t calls = ap (λ b. b || is_open t calls) (own t)
 
 -- it was opened, and closed before anything was carried out
 pub only_opened : (hub opened new : Hub) (session : List ℕ) (t : ℕ) → t ≡ next_token hub
-    → ((calls : List Call) → Stands hub calls → Stands opened (Opened t ∷ calls))
-    → ((calls : List Call) → Stands opened calls → Stands new (with_call (Closed t) calls))
-    → (calls : List Call) → Stands hub calls
-    → (made : List Call) × Stands new (made ++ calls) × (all_steps made ≡ []) × IsAbort session made calls
+    → ((calls : List Call) → Stands true hub calls → Stands true opened (Opened t ∷ calls))
+    → ((calls : List Call) → Stands true opened calls → Stands true new (with_call (Closed t) calls))
+    → (calls : List Call) → Stands true hub calls
+    → (made : List Call) × Stands true new (made ++ calls) × (all_steps made ≡ []) × IsAbort session made calls
 only_opened hub opened new session t is opens closes calls s = (
   Closed t ∷ Opened t ∷ [],
-  subst (Stands new) (ap (λ o. cond o (Closed t ∷ Opened t ∷ calls) (Opened t ∷ calls)) (open_now t calls))
+  subst (Stands true new) (ap (λ o. cond o (Closed t ∷ Opened t ∷ calls) (Opened t ∷ calls)) (open_now t calls))
       (closes (Opened t ∷ calls) (opens calls s)),
   refl,
   record {
@@ -74,18 +74,18 @@ run_closed lost t lines steps calls opened = by_loss lost
 -- its line was carried out, or nothing was
 pub carried_out : {T : Type 0} (is_at : T → Course → Type 0) (hub opened sent run new : Hub) (store after : T)
     (session line : List ℕ) (t : ℕ) → line ≡ command_text (Abort session) ++ (10 ∷ [])
-    → t ≡ next_token hub → ((calls : List Call) → Stands hub calls → Stands opened (Opened t ∷ calls))
-    → ((calls : List Call) → Stands opened calls → Stands sent (with_call (Received t line) calls))
-    → ((calls : List Call) → Stands sent calls → (lost : Bool) × (lines : List (List ℕ)) × (steps : List Step)
-    × Stands run (with_run lost t lines steps calls) × WentOn is_at store steps after
+    → t ≡ next_token hub → ((calls : List Call) → Stands true hub calls → Stands true opened (Opened t ∷ calls))
+    → ((calls : List Call) → Stands true opened calls → Stands true sent (with_call (Received t line) calls))
+    → ((calls : List Call) → Stands true sent calls → (lost : Bool) × (lines : List (List ℕ)) × (steps : List Step)
+    × Stands true run (with_run lost t lines steps calls) × WentOn is_at store steps after
     × (all_steps (with_run lost t lines steps calls) ≡ all_steps calls ++ steps))
-    → ((calls : List Call) → Stands run calls → Stands new (with_call (Closed t) calls))
-    → (calls : List Call) → Stands hub calls
-    → (made : List Call) × Stands new (made ++ calls) × WentOn is_at store (all_steps made) after × IsAbort session made calls
+    → ((calls : List Call) → Stands true run calls → Stands true new (with_call (Closed t) calls))
+    → (calls : List Call) → Stands true hub calls
+    → (made : List Call) × Stands true new (made ++ calls) × WentOn is_at store (all_steps made) after × IsAbort session made calls
 carried_out is_at hub opened sent run new store after session line t line_is is opens sends runs closes calls s =
     let (lost, lines, steps, ran, went, grew) = runs (Received t line ∷ Opened t ∷ calls) received in
-    let now : Stands new (Closed t ∷ Ran t lines steps ∷ Received t line ∷ Opened t ∷ calls) =
-    subst (Stands new) (run_closed lost t lines steps (Received t line ∷ Opened t ∷ calls) (open_now t calls))
+    let now : Stands true new (Closed t ∷ Ran t lines steps ∷ Received t line ∷ Opened t ∷ calls) =
+    subst (Stands true new) (run_closed lost t lines steps (Received t line ∷ Opened t ∷ calls) (open_now t calls))
     (closes (with_run lost t lines steps (Received t line ∷ Opened t ∷ calls)) ran) in (
       Closed t ∷ Ran t lines steps ∷ Received t line ∷ Opened t ∷ [],
       now,
@@ -101,9 +101,9 @@ carried_out is_at hub opened sent run new store after session line t line_is is 
     new_here : AllByRecursion (λ c. token_of c < t) calls
     new_here = subst (λ n. AllByRecursion (λ c. token_of c < n) calls) (sym is) s.given
 
-    received : Stands sent (Received t line ∷ Opened t ∷ calls)
+    received : Stands true sent (Received t line ∷ Opened t ∷ calls)
     received =
-        subst (Stands sent) (ap (λ o. cond o (Received t line ∷ Opened t ∷ calls) (Opened t ∷ calls)) (open_now t calls))
+        subst (Stands true sent) (ap (λ o. cond o (Received t line ∷ Opened t ∷ calls) (Opened t ∷ calls)) (open_now t calls))
         (sends (Opened t ∷ calls) (opens calls s))
 
 pub when_ok : {T E P : Type 0} (Q : Type 0) (r : Result T E) → is_err r ≡ false → MatchResult r (λ _. P) (λ _. Q) → P
@@ -122,14 +122,14 @@ none_aborted is_at May hub store = λ calls s. ([], s, λ course at. (tt, at), t
 
 pub one_more : {T : Type 0} (is_at : T → Course → Type 0) (May : List ℕ → Type 0) (old mid new : Hub)
     (store between after : T) (session : List ℕ) → May session → HasAborted is_at May old store mid between
-    → ((calls : List Call) → Stands mid calls → (made : List Call) × Stands new (made ++ calls)
+    → ((calls : List Call) → Stands true mid calls → (made : List Call) × Stands true new (made ++ calls)
     × WentOn is_at between (all_steps made) after × IsAbort session made calls)
     → HasAborted is_at May old store new after
 one_more is_at May old mid new store between after session may first then = λ calls s.
     let (rest, stands, went, are) = first calls s in
     let (made, now, gone, is) = then (abort_calls rest ++ calls) stands in (
       (session, made) ∷ rest,
-      subst (Stands new) (sym (append_assoc made (abort_calls rest) calls)) now,
+      subst (Stands true new) (sym (append_assoc made (abort_calls rest) calls)) now,
       subst (λ (ss : List Step). WentOn is_at store ss after) (sym (steps_both made (abort_calls rest)))
           (went_on_both is_at store between after (all_steps (abort_calls rest)) (all_steps made) went gone),
       (may, is, are),

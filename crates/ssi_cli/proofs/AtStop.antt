@@ -32,7 +32,7 @@ there_is : (o : Option Buffers) → is_some o ≡ true → (b : Buffers) × (o �
 there_is None is = absurd (false≢true is)
 there_is (Some b) is = (b, refl)
 
-parted_for : (t : ℕ) (calls : List Call) (wants : Bool) (left unsent : List ℕ) → IsServed t calls left unsent
+parted_for : (t : ℕ) (calls : List Call) (wants : Bool) (left unsent : List ℕ) → IsServed true t calls left unsent
     → wants ≡ nat_lt 0 (length unsent) → IsPartedFor t calls (ends_by wants)
 parted_for t calls wants left [] served is =
     subst (λ w. IsPartedFor t calls (ends_by w)) (sym is) (left, served)
@@ -44,7 +44,7 @@ module _ {S : Type 0} (remaining contents : S → Option (List ℕ)) (t : ℕ) (
   pub parts : (wants : Bool) → is_some (buffers_of old t) ≡ true
       → Makes old mid (λ _ made. Exchanged remaining contents t start left made [])
       → MatchOption (buffers_of mid t) (wants ≡ false) (λ b. wants ≡ nat_lt 0 (length b.unsent))
-      → ((calls : List Call) → Stands mid calls → Stands new (with_call (Closed t) calls))
+      → ((calls : List Call) → Stands true mid calls → Stands true new (with_call (Closed t) calls))
       → Makes old new (HasParted remaining contents t start left (ends_by wants))
   parts wants there makes told closes = λ calls s.
       let (b, has) = there_is (buffers_of old t) there in
@@ -57,7 +57,7 @@ module _ {S : Type 0} (remaining contents : S → Option (List ℕ)) (t : ℕ) (
       let how : wants ≡ nat_lt 0 (length unsent) =
       subst (λ (o : Option Buffers). MatchOption o (wants ≡ false) (λ b. wants ≡ nat_lt 0 (length b.unsent))) has_now told in (
         Closed t ∷ made,
-        subst (Stands new) (ap (λ o. cond o (Closed t ∷ (made ++ calls)) (made ++ calls)) opened)
+        subst (Stands true new) (ap (λ o. cond o (Closed t ∷ (made ++ calls)) (made ++ calls)) opened)
             (closes (made ++ calls) stands),
         quiet,
         record {
@@ -71,10 +71,10 @@ module _ {S : Type 0} (remaining contents : S → Option (List ℕ)) (t : ℕ) (
 -- a write that failed ends it, too
 pub breaks_off : {S : Type 0} (remaining contents : S → Option (List ℕ)) (t : ℕ) (start left : S) (old new : Hub)
     (why : Closing) → (why ≡ Broken) × Makes old new (λ calls made. (earlier : List Call) × (made ≡ Closed t ∷ earlier)
-    × HasUnsent t (earlier ++ calls) × Exchanged remaining contents t start left earlier [])
+    × HasUnsent true t (earlier ++ calls) × Exchanged remaining contents t start left earlier [])
     → Makes old new (HasParted remaining contents t start left why)
 breaks_off remaining contents t start left old new why broken =
-    makes_more old new (λ calls made. (earlier : List Call) × (made ≡ Closed t ∷ earlier) × HasUnsent t (earlier ++ calls)
+    makes_more old new (λ calls made. (earlier : List Call) × (made ≡ Closed t ∷ earlier) × HasUnsent true t (earlier ++ calls)
     × Exchanged remaining contents t start left earlier []) (HasParted remaining contents t start left why) broken.1
     (λ calls made is. let (earlier, same, unsent, one) = is in record {
       writes = earlier;

@@ -48,32 +48,32 @@ has_sent None sent = absurd sent
 has_sent (Some b) sent = (b, refl, sent)
 
 pub finishes : (hub new : Hub) (t : ℕ) → HasAllSent (buffers_of hub t) → (MayRun (is_stopped hub) (buffers_of hub t) → ⊥)
-    → ((calls : List Call) → Stands hub calls → Stands new (with_call (Closed t) calls))
-    → (calls : List Call) → Stands hub calls → IsFinished t calls × Stands new (Closed t ∷ calls)
+    → ((calls : List Call) → Stands true hub calls → Stands true new (with_call (Closed t) calls))
+    → (calls : List Call) → Stands true hub calls → IsFinished true t calls × Stands true new (Closed t ∷ calls)
 finishes hub new t sent idle closes calls s =
     let (b, has, none) = has_sent (buffers_of hub t) sent in
     let (left, served, so, there) = served_at (buffers_of hub) hub.next (is_stopped hub) calls t b s has in
     let cant = subst (λ (o : Option Buffers). MayRun (is_stopped hub) o → ⊥) has idle in (
       (
         left,
-        subst (λ (l : List ℕ). IsServed t calls left l) none served,
+        subst (λ (l : List ℕ). IsServed true t calls left l) none served,
         λ all. ap (λ (l : List ℕ). has_line l) (sym so)
             ∙ none_waits (is_stopped hub) (has_line b.waiting) b.unsent
             (not_stopped (is_stopped hub) (all_steps calls) s.ends all) none cant,
       ),
-      subst (Stands new) (ap (λ o. cond o (Closed t ∷ calls) calls) there) (closes calls s),
+      subst (Stands true new) (ap (λ o. cond o (Closed t ∷ calls) calls) there) (closes calls s),
     )
 
 pub did_end : {S T A : Type 0} (remaining contents : S → Option (List ℕ)) (is_at : T → Course → Type 0) (t : ℕ)
     (Sure : Type 0) (r : Result A Closing) (users : Option Users) (old new : Hub) (start left : S) (store : T)
     → left ≡ start → (Sure → NoneUnsent (buffers_of old t)) → OnOk r (new ≡ old) → (P : Type 0)
     → IfErr r (λ why. (why ≡ Ended) × P
-    × ((calls : List Call) → Stands old calls → IsFinished t calls × Stands new (Closed t ∷ calls)))
+    × ((calls : List Call) → Stands true old calls → IsFinished true t calls × Stands true new (Closed t ∷ calls)))
     → Did remaining contents is_at t ⊥ Sure r users old start store users new left store
 did_end remaining contents is_at t Sure (Ok x) users old new start left store same written ok P err = λ calls s. (
   [],
   [],
-  subst (λ (h : Hub). Stands h calls) (sym ok) s,
+  subst (λ (h : Hub). Stands true h calls) (sym ok) s,
   λ course at. (tt, at),
   subst (λ z. Exchanged remaining contents t start z [] []) (sym same) (none_exchanged remaining contents t start),
   refl,
@@ -88,7 +88,7 @@ did_end remaining contents is_at t Sure (Err why) users old new start left store
       stands,
       λ course at. (tt, at),
       subst (λ z. Exchanged remaining contents t start z [] []) (sym same) (none_exchanged remaining contents t start),
-      subst (λ w. IsClosedFor t [] calls [] w) (sym err.0) (refl, finished),
+      subst (λ w. IsClosedFor true t [] calls [] w) (sym err.0) (refl, finished),
       λ s u e. e,
       λ may. absurd may,
       λ sure. tt,
@@ -119,7 +119,7 @@ module _ {S T : Type 0} (remaining contents : S → Option (List ℕ)) (is_at : 
       → Carried {A = Unit {0}} is_at t (MayRun (is_stopped hub) (buffers_of hub t)) (Ok tt) was hub store now ran after
       → OnOk r (Makes ran sent (λ _ made. Exchanged remaining contents t read left made []))
       → IfErr r (λ why. (why ≡ Broken) × Makes ran sent (λ calls made. (earlier : List Call)
-      × (made ≡ Closed t ∷ earlier) × HasUnsent t (earlier ++ calls)
+      × (made ≡ Closed t ∷ earlier) × HasUnsent true t (earlier ++ calls)
       × Exchanged remaining contents t read left earlier []))
       → OnOk r (Sure → NoneUnsent (buffers_of sent t))
       → Did remaining contents is_at t (MayRun (is_stopped old) (buffers_of old t)) Sure r was old start store now sent left after
@@ -134,7 +134,7 @@ module _ {S T : Type 0} (remaining contents : S → Option (List ℕ)) (is_at : 
       → Makes ran sent (λ _ made. Exchanged remaining contents t read left made [])
       → (Sure → NoneUnsent (buffers_of sent t)) → end ≡ left → OnOk r (new ≡ sent) → (P : Type 0)
       → IfErr r (λ why. (why ≡ Ended) × P
-      × ((calls : List Call) → Stands sent calls → IsFinished t calls × Stands new (Closed t ∷ calls)))
+      × ((calls : List Call) → Stands true sent calls → IsFinished true t calls × Stands true new (Closed t ∷ calls)))
       → Did remaining contents is_at t (MayRun (is_stopped old) (buffers_of old t)) Sure r was old start store now new end after
   did_all Sure r sent new left end carried ok written same kept P closed =
       did_both remaining contents is_at t {A = Unit {0}} (MayRun (is_stopped old) (buffers_of old t))
@@ -173,11 +173,11 @@ all_called : (made : List Call) (deeds : List Deed) → AllByRecursion IsCalled 
 all_called [] deeds all = all
 all_called (c ∷ made) deeds all = (tt, all_called made deeds all)
 
-pub called_done : (was now : Option Users) (old new : Hub) (made : List Call) (deeds : List Deed) → AreDone was old deeds
-    → is_some now ≡ is_some was → HasNoted was now made → Stands new (made ++ calls_in deeds)
-    → AreDone now new (called made deeds)
-called_done was now old new made deeds done same noted stands = record {
-  stands = subst (Stands new) (sym (calls_called made deeds)) stands;
+pub called_done : (keeps : Bool) (was now : Option Users) (old new : Hub) (made : List Call) (deeds : List Deed) → AreDone keeps was old deeds
+    → is_some now ≡ is_some was → HasNoted was now made → Stands keeps new (made ++ calls_in deeds)
+    → AreDone keeps now new (called made deeds)
+called_done keeps was now old new made deeds done same noted stands = record {
+  stands = subst (Stands keeps new) (sym (calls_called made deeds)) stands;
   due = due_called made deeds done.due;
   none = λ e. all_called made deeds (done.none (sym same ∙ e));
   known = λ s t e.
@@ -237,11 +237,11 @@ nobody : (users : Option Users) (s : List ℕ) → is_some users ≡ false → l
 nobody None s none = refl
 nobody (Some users) s none = absurd (false≢true (sym none))
 
-due_aborted : (users : Option Users) (hub : Hub) (t : ℕ) (aborts : List (List ℕ × List Call)) (deeds : List Deed)
-    → AreDone users hub deeds → AreAborts (HasUsed users t) aborts (calls_in deeds) → is_open t (calls_in deeds) ≡ false
+due_aborted : (keeps : Bool) (users : Option Users) (hub : Hub) (t : ℕ) (aborts : List (List ℕ × List Call)) (deeds : List Deed)
+    → AreDone keeps users hub deeds → AreAborts (HasUsed users t) aborts (calls_in deeds) → is_open t (calls_in deeds) ≡ false
     → AreDue (aborted aborts deeds)
-due_aborted users hub t [] deeds done are gone = done.due
-due_aborted users hub t (a ∷ rest) deeds done are gone =
+due_aborted keeps users hub t [] deeds done are gone = done.due
+due_aborted keeps users hub t (a ∷ rest) deeds done are gone =
     let known = done.known a.0 t are.0 in (
       subst (IsAbort a.0 a.1) (sym (calls_aborted rest deeds)) are.1,
       (
@@ -251,16 +251,16 @@ due_aborted users hub t (a ∷ rest) deeds done are gone =
             ∙ still_gone (HasUsed users t) t rest (calls_in deeds)
             (λ s n may all. user_given s deeds t n all (done.known s t may)) are.2 gone,
       ),
-      due_aborted users hub t rest deeds done are.2 gone,
+      due_aborted keeps users hub t rest deeds done are.2 gone,
     )
 
-pub aborted_done : (was now : Option Users) (old new : Hub) (t : ℕ) (aborts : List (List ℕ × List Call)) (deeds : List Deed)
-    → AreDone was old deeds → is_some now ≡ is_some was → HasForgotten was now
-    → Stands new (abort_calls aborts ++ calls_in deeds) → AreAborts (HasUsed was t) aborts (calls_in deeds)
-    → is_open t (calls_in deeds) ≡ false → AreDone now new (aborted aborts deeds)
-aborted_done was now old new t aborts deeds done same forgot stands are gone = record {
-  stands = subst (Stands new) (sym (calls_aborted aborts deeds)) stands;
-  due = due_aborted was old t aborts deeds done are gone;
+pub aborted_done : (keeps : Bool) (was now : Option Users) (old new : Hub) (t : ℕ) (aborts : List (List ℕ × List Call)) (deeds : List Deed)
+    → AreDone keeps was old deeds → is_some now ≡ is_some was → HasForgotten was now
+    → Stands keeps new (abort_calls aborts ++ calls_in deeds) → AreAborts (HasUsed was t) aborts (calls_in deeds)
+    → is_open t (calls_in deeds) ≡ false → AreDone keeps now new (aborted aborts deeds)
+aborted_done keeps was now old new t aborts deeds done same forgot stands are gone = record {
+  stands = subst (Stands keeps new) (sym (calls_aborted aborts deeds)) stands;
+  due = due_aborted keeps was old t aborts deeds done are gone;
   none = λ e. by_aborts aborts are (sym same ∙ e);
   known = λ s u e. user_aborted s aborts deeds ∙ done.known s u (forgot s u e);
 }
@@ -273,7 +273,7 @@ aborted_done was now old new t aborts deeds done same forgot stands are gone = r
 -- ---- a turn
 
 closed_at : (hub : Hub) (t : ℕ) (opened : Bool) → opened ≡ is_some (buffers_of hub t) → opened ≡ false
-    → (calls : List Call) → Stands hub calls → is_open t calls ≡ false
+    → (calls : List Call) → Stands true hub calls → is_open t calls ≡ false
 closed_at hub t opened is gone calls s =
     let (left, unsent, served, has) = s.served t in by_open left unsent (is_open t calls) has
   where
@@ -291,7 +291,7 @@ module _ {S T A : Type 0} (remaining contents : S → Option (List ℕ)) (is_at 
         made,
         dropped,
         [],
-        called_done was is old hub (with_end r t made) deeds done same (noted_end r t was is made noted) stands,
+        called_done true was is old hub (with_end r t made) deeds done same (noted_end r t was is made noted) stands,
         subst (λ (ss : List Step). WentOn is_at store ss mid) (sym (append-nil (all_steps made))) went,
         one,
         why,
@@ -306,12 +306,12 @@ module _ {S T A : Type 0} (remaining contents : S → Option (List ℕ)) (is_at 
       → Turned remaining contents is_at t Sure r was old start store now new left after
   turned_gone same still opened opened_if gone did aborts forgot = λ deeds done.
       let (made, dropped, stands, went, one, why, noted, begins, written) = did (calls_in deeds) done.stands in
-      let half = called_done was is old hub (with_end r t made) deeds done same (noted_end r t was is made noted) stands in
+      let half = called_done true was is old hub (with_end r t made) deeds done same (noted_end r t was is made noted) stands in
       let (list, on, goes, are) = aborts (calls_in (called (with_end r t made) deeds)) half.stands in (
         made,
         dropped,
         list,
-        aborted_done is now hub new t list (called (with_end r t made) deeds) half still forgot on are
+        aborted_done true is now hub new t list (called (with_end r t made) deeds) half still forgot on are
             (closed_at hub t opened opened_if gone (calls_in (called (with_end r t made) deeds)) half.stands),
         went_on_both is_at store mid after (all_steps made) (all_steps (abort_calls list)) went goes,
         one,

@@ -20,7 +20,7 @@ quiet_call c quiet calls = by_open (is_open (token_of c) calls)
     by_open false = refl
 
 pub called_with : (old new : Hub) (c : Call) → ((calls : List Call) → all_steps (c ∷ calls) ≡ all_steps calls)
-    → is_stopped new ≡ is_stopped old → ((calls : List Call) → Stands old calls → Stands new (with_call c calls))
+    → is_stopped new ≡ is_stopped old → ((calls : List Call) → Stands true old calls → Stands true new (with_call c calls))
     → WasCalled old new
 called_with old new c quiet stopped stands = record {
   stopped = stopped;
@@ -28,21 +28,25 @@ called_with old new c quiet stopped stands = record {
 }
 
 pub called_opened : (old new : Hub) (t : ℕ) → is_stopped new ≡ is_stopped old
-    → ((calls : List Call) → Stands old calls → Stands new (Opened t ∷ calls)) → WasCalled old new
+    → ((calls : List Call) → Stands true old calls → Stands true new (Opened t ∷ calls)) → WasCalled old new
 called_opened old new t stopped stands = record {
   stopped = stopped;
   stands = λ calls s. (Opened t ∷ calls, stands calls s, refl);
 }
 
 pub called_received : {T E : Type 0} (old new : Hub) (t : ℕ) (bytes : List ℕ) (now : Option Buffers) (result : Result T E)
-    → OnOk result (Changed old new t now) → OnErr result (IsSame old new) → ((calls : List Call) → Stands old calls
-    → MatchResult result (λ _. Stands new (with_call (Received t bytes) calls)) (λ _. Stands new calls)) → WasCalled old new
+    → OnOk result (Changed old new t now) → OnErr result (IsSame old new) → ((calls : List Call) → Stands true old calls
+    → MatchResult result (λ _. Stands true new (with_call (Received t bytes) calls)) (λ _. Stands true new calls)) → WasCalled old new
 called_received old new t bytes now (Ok x) changed same stands =
     called_with old new (Received t bytes) (λ calls. refl) changed.stopped stands
 called_received old new t bytes now (Err e) changed same stands = record {
   stopped = same.stopped;
   stands = λ calls s. (calls, stands calls s, refl);
 }
+
+pub not_opened : (old new : Hub) → is_stopped new ≡ is_stopped old
+    → ((calls : List Call) → Stands true old calls → Stands true new calls) → WasCalled old new
+not_opened old new stopped stands = record { stopped = stopped; stands = λ calls s. (calls, stands calls s, refl) }
 
 pub not_called : (hub : Hub) → WasCalled hub hub
 not_called hub = record { stopped = refl; stands = λ calls s. (calls, s, refl) }
@@ -86,9 +90,9 @@ run_both is_at old mid new store between after first then = λ calls s.
     )
 
 -- the calls of a hub that began with none
-pub all_called : {T : Type 0} (is_at : T → Course → Type 0) (old new : Hub) (store after : T) → Stands old []
+pub all_called : {T : Type 0} (is_at : T → Course → Type 0) (old new : Hub) (store after : T) → Stands true old []
     → HasRun is_at old store new after
-    → (calls : List Call) × Stands new calls × WentOn is_at store (all_steps calls) after
+    → (calls : List Call) × Stands true new calls × WentOn is_at store (all_steps calls) after
 all_called is_at old new store after none run =
     let (calls, steps, stands, grew, went) = run [] none in
     (calls, stands, subst (λ (ss : List Step). WentOn is_at store ss after) (sym grew) went)

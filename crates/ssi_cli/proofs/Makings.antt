@@ -19,25 +19,25 @@ use Rattle.ssi_cli.proofs.Exchanges.{steps_both, exchanged_both}
 -- ---- a connection that is open
 
 pub served_at : (b : ℕ → Option Buffers) (next : ℕ) (stopped : Bool) (calls : List Call) (t : ℕ) (x : Buffers)
-    → StandsFor b next stopped calls → b t ≡ Some x
-    → (left : List ℕ) × IsServed t calls left x.unsent × (x.waiting ≡ clipped left) × (is_open t calls ≡ true)
+    → StandsFor true b next stopped calls → b t ≡ Some x
+    → (left : List ℕ) × IsServed true t calls left x.unsent × (x.waiting ≡ clipped left) × (is_open t calls ≡ true)
 served_at b next stopped calls t x s has =
     let (left, unsent, served, is) = s.served t in
     by_open left unsent served (is_open t calls) refl (sym has ∙ is)
   where
-    by_open : (left unsent : List ℕ) → IsServed t calls left unsent → (o : Bool) → is_open t calls ≡ o
+    by_open : (left unsent : List ℕ) → IsServed true t calls left unsent → (o : Bool) → is_open t calls ≡ o
         → Some x ≡ cond o (Some (record { waiting = clipped left; unsent = unsent })) None
-        → (left : List ℕ) × IsServed t calls left x.unsent × (x.waiting ≡ clipped left) × (is_open t calls ≡ true)
+        → (left : List ℕ) × IsServed true t calls left x.unsent × (x.waiting ≡ clipped left) × (is_open t calls ≡ true)
     by_open left unsent served true opened same =
         let now = same_Some x (record { waiting = clipped left; unsent = unsent }) same in (
           left,
-          subst (λ u. IsServed t calls left u) (sym (ap (λ (y : Buffers). y.unsent) now)) served,
+          subst (λ u. IsServed true t calls left u) (sym (ap (λ (y : Buffers). y.unsent) now)) served,
           ap (λ (y : Buffers). y.waiting) now,
           opened,
         )
     by_open left unsent served false opened same = absurd (none-some x (sym same))
 
-pub open_at : (hub : Hub) (t : ℕ) (x : Buffers) → buffers_of hub t ≡ Some x → (calls : List Call) → Stands hub calls
+pub open_at : (hub : Hub) (t : ℕ) (x : Buffers) → buffers_of hub t ≡ Some x → (calls : List Call) → Stands true hub calls
     → is_open t calls ≡ true
 open_at hub t x has calls s =
     let (left, served, waits, opened) = served_at (buffers_of hub) hub.next (is_stopped hub) calls t x s has in opened
@@ -66,12 +66,12 @@ pub makes_none : (hub : Hub) (P : List Call → List Call → Type 0) → ((call
 makes_none hub P is = λ calls s. ([], s, refl, is calls)
 
 pub makes_one : (old new : Hub) (c : Call) (P : List Call → List Call → Type 0)
-    → ((calls : List Call) → Stands old calls → is_open (token_of c) calls ≡ true) → all_steps (c ∷ []) ≡ []
-    → ((calls : List Call) → Stands old calls → Stands new (with_call c calls))
-    → ((calls : List Call) → Stands old calls → P calls (c ∷ [])) → Makes old new P
+    → ((calls : List Call) → Stands true old calls → is_open (token_of c) calls ≡ true) → all_steps (c ∷ []) ≡ []
+    → ((calls : List Call) → Stands true old calls → Stands true new (with_call c calls))
+    → ((calls : List Call) → Stands true old calls → P calls (c ∷ [])) → Makes old new P
 makes_one old new c P opened quiet stands is = λ calls s. (
   c ∷ [],
-  subst (Stands new) (ap (λ o. cond o (c ∷ calls) calls) (opened calls s)) (stands calls s),
+  subst (Stands true new) (ap (λ o. cond o (c ∷ calls) calls) (opened calls s)) (stands calls s),
   quiet,
   is calls s,
 )
@@ -82,7 +82,7 @@ makes_both old mid new P Q R first then both = λ calls s.
     let (some, stands, quiet, is) = first calls s in
     let (more, now, still, goes) = then (some ++ calls) stands in (
       more ++ some,
-      subst (Stands new) (sym (append_assoc more some calls)) now,
+      subst (Stands true new) (sym (append_assoc more some calls)) now,
       steps_both more some ∙ ap (λ l. l ++ all_steps more) quiet ∙ still,
       both calls some more is goes,
     )
@@ -93,7 +93,7 @@ makes_more old new P Q first more = λ calls s.
     let (made, stands, quiet, is) = first calls s in (made, stands, quiet, more calls made is)
 
 pub open_by : (Q : Buffers → Type 0) (hub : Hub) (t : ℕ) (r : Bool) → MatchOption (buffers_of hub t) (r ≡ false) Q
-    → r ≡ true → (calls : List Call) → Stands hub calls → is_open t calls ≡ true
+    → r ≡ true → (calls : List Call) → Stands true hub calls → is_open t calls ≡ true
 open_by Q hub t r m is calls s = let (x, has) = is_there Q (buffers_of hub t) r m is in open_at hub t x has calls s
 
 pub ended_if_none : {E : Type 0} (n : ℕ) → n ≡ 0 → (0 < n) ⊎ E → E
@@ -106,18 +106,18 @@ when_ok (Err e) m is = absurd (false≢true is)
 
 -- of two calls the first was made, or the second after an error
 pub made_if_ok : {T E : Type 0} (r : Result T E) (old new : Hub) (c d : Call) (P : List Call → List Call → Type 0)
-    → ((calls : List Call) → Stands old calls
-    → MatchResult r (λ _. Stands new (with_call c calls)) (λ _. Stands new (with_call d calls)))
-    → ((calls : List Call) → Stands old calls → is_open (token_of c) calls ≡ true) → all_steps (c ∷ []) ≡ []
+    → ((calls : List Call) → Stands true old calls
+    → MatchResult r (λ _. Stands true new (with_call c calls)) (λ _. Stands true new (with_call d calls)))
+    → ((calls : List Call) → Stands true old calls → is_open (token_of c) calls ≡ true) → all_steps (c ∷ []) ≡ []
     → ((calls : List Call) → P calls (c ∷ [])) → OnOk r (Makes old new P)
 made_if_ok (Ok x) old new c d P stands opened quiet is = makes_one old new c P opened quiet stands (λ calls s. is calls)
 made_if_ok (Err e) old new c d P stands opened quiet is = tt
 
 pub made_if_err : {T E : Type 0} (r : Result T E) (why : E) (old new : Hub) (c d : Call)
     (P : List Call → List Call → Type 0)
-    → ((calls : List Call) → Stands old calls
-    → MatchResult r (λ _. Stands new (with_call c calls)) (λ _. Stands new (with_call d calls)))
-    → ((calls : List Call) → Stands old calls → is_open (token_of d) calls ≡ true) → all_steps (d ∷ []) ≡ []
+    → ((calls : List Call) → Stands true old calls
+    → MatchResult r (λ _. Stands true new (with_call c calls)) (λ _. Stands true new (with_call d calls)))
+    → ((calls : List Call) → Stands true old calls → is_open (token_of d) calls ≡ true) → all_steps (d ∷ []) ≡ []
     → IfErr r (λ e. e ≡ why) → ((calls : List Call) → P calls (d ∷ [])) → IfErr r (λ e. (e ≡ why) × Makes old new P)
 made_if_err (Ok x) why old new c d P stands opened quiet said is = tt
 made_if_err (Err e) why old new c d P stands opened quiet said is =
@@ -212,8 +212,8 @@ module _ {S : Type 0} (remaining contents : S → Option (List ℕ)) (t : ℕ) (
   pub sends : (count : ℕ) → MatchOption (buffers_of hub t) (bytes ≡ []) (λ b. bytes ≡ b.unsent) → 0 < length bytes
       → Makes first hub (λ _ made. Exchanged remaining contents t start old made [])
       → remaining new ≡ remaining old → Appends (contents old) (contents new) (take count bytes)
-      → ((calls : List Call) → Stands hub calls
-      → Stands now (with_call (Wrote t (first_unsent count (buffers_of hub t))) calls))
+      → ((calls : List Call) → Stands true hub calls
+      → Stands true now (with_call (Wrote t (first_unsent count (buffers_of hub t))) calls))
       → Makes first now (λ _ made. Exchanged remaining contents t start new made [])
   sends count m some makes same wrote stands =
       let (x, has, is) = unsent_is (buffers_of hub t) bytes m some in
@@ -240,15 +240,15 @@ module _ {S : Type 0} (remaining contents : S → Option (List ℕ)) (t : ℕ) (
   pub breaks : MatchOption (buffers_of hub t) (bytes ≡ []) (λ b. bytes ≡ b.unsent) → 0 < length bytes
       → Makes first hub (λ _ made. Exchanged remaining contents t start old made [])
       → remaining new ≡ remaining old → Keeps (contents old) (contents new)
-      → ((calls : List Call) → Stands hub calls → Stands now (with_call (Closed t) calls))
-      → Makes first now (λ calls made. (earlier : List Call) × (made ≡ Closed t ∷ earlier) × HasUnsent t (earlier ++ calls)
+      → ((calls : List Call) → Stands true hub calls → Stands true now (with_call (Closed t) calls))
+      → Makes first now (λ calls made. (earlier : List Call) × (made ≡ Closed t ∷ earlier) × HasUnsent true t (earlier ++ calls)
       × Exchanged remaining contents t start new earlier [])
   breaks m some makes same kept stands = λ calls s.
       let (x, has, is) = unsent_is (buffers_of hub t) bytes m some in
       let (made, mid, quiet, one) = stays makes same kept calls s in
       let (left, served, waits, opened) = served_at (buffers_of hub) hub.next (is_stopped hub) (made ++ calls) t x mid has in (
         Closed t ∷ made,
-        subst (Stands now) (ap (λ o. cond o (Closed t ∷ (made ++ calls)) (made ++ calls)) opened) (stands (made ++ calls) mid),
+        subst (Stands true now) (ap (λ o. cond o (Closed t ∷ (made ++ calls)) (made ++ calls)) opened) (stands (made ++ calls) mid),
         quiet,
         (made, refl, (left, x.unsent, served, subst (λ (l : List ℕ). 0 < length l) is some), one),
       )

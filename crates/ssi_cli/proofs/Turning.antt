@@ -9,7 +9,7 @@ use Rattle.std.proofs.lemmas.Bool.{eq-eqb, both_ways, false≢true, and_parts, l
 use Rattle.std.proofs.lemmas.Option.{same_Some, none-some}
 use Rattle.adya_line.specs.Meaning.Lines.{IsPlain}
 use Rattle.ssi_store.specs.Meaning.Courses.{Course}
-use Rattle.ssi_line.specs.Meaning.Steps.{Step, IsStep, AreSteps}
+use Rattle.ssi_line.specs.Meaning.Steps.{Step, IsStep, IsStepOf, AreSteps}
 use Rattle.ssi_line.specs.Clauses.Ends.{WentOn}
 use Rattle.ssi_line.specs.Clauses.Answers.{kept}
 use Rattle.ssi_hub.specs.declared.hub.Hub.{Hub}
@@ -103,15 +103,15 @@ lines_both t (Wrote u bytes ∷ later) calls = lines_both t later calls
 lines_both t (Closed u ∷ later) calls = lines_both t later calls
 
 closed_more : (t : ℕ) (made later calls : List Call) (dropped : List ℕ) (why : Closing)
-    → IsClosedFor t later (made ++ calls) dropped why → IsClosedFor t (later ++ made) calls dropped why
+    → IsClosedFor true t later (made ++ calls) dropped why → IsClosedFor true t (later ++ made) calls dropped why
 closed_more t made later calls dropped Ended is =
-    (is.0, subst (λ l. IsFinished t l) (sym (append_assoc later made calls)) is.1)
+    (is.0, subst (λ l. IsFinished true t l) (sym (append_assoc later made calls)) is.1)
 closed_more t made later calls dropped Broken is =
-    (is.0, subst (λ l. HasUnsent t l) (sym (append_assoc later made calls)) is.1)
+    (is.0, subst (λ l. HasUnsent true t l) (sym (append_assoc later made calls)) is.1)
 closed_more t made later calls dropped Memory (inl some) = inl some
 closed_more t made later calls dropped Memory (inr (inl waits)) =
     let (left, unsent, served, has) = waits in
-    inr (inl (left, unsent, subst (λ l. IsServed t l left unsent) (sym (append_assoc later made calls)) served, has))
+    inr (inl (left, unsent, subst (λ l. IsServed true t l left unsent) (sym (append_assoc later made calls)) served, has))
 closed_more t made later calls dropped Memory (inr (inr some)) =
     let both : length (lines_of t (later ++ made)) ≡ length (lines_of t made) + length (lines_of t later) =
     ap (λ (l : List (List ℕ)). length l) (lines_both t later made) ∙ length-append (lines_of t made) (lines_of t later) in
@@ -119,7 +119,7 @@ closed_more t made later calls dropped Memory (inr (inr some)) =
 closed_more t made later calls dropped Stopped is = is
 
 left_more : {A : Type 0} (t : ℕ) (made later calls : List Call) (dropped : List ℕ) (r : Result A Closing)
-    → IsLeft t later (made ++ calls) dropped r → IsLeft t (later ++ made) calls dropped r
+    → IsLeft true t later (made ++ calls) dropped r → IsLeft true t (later ++ made) calls dropped r
 left_more t made later calls dropped (Ok x) is = is
 left_more t made later calls dropped (Err why) is = closed_more t made later calls dropped why is
 
@@ -173,19 +173,19 @@ begun_both t made later r First Then (inl is) first then = begun_later t made la
 begun_both t made later r First Then (inr is) first then = begun_later t made later r (inr (then is))
 
 all_written_more : {A : Type 0} (t : ℕ) (made later calls : List Call) (r : Result A Closing)
-    → OnOk r (IsAllWritten t (later ++ (made ++ calls))) → OnOk r (IsAllWritten t ((later ++ made) ++ calls))
+    → OnOk r (IsAllWritten true t (later ++ (made ++ calls))) → OnOk r (IsAllWritten true t ((later ++ made) ++ calls))
 all_written_more t made later calls (Ok x) is =
-    subst (λ (l : List Call). IsAllWritten t l) (sym (append_assoc later made calls)) is
+    subst (λ (l : List Call). IsAllWritten true t l) (sym (append_assoc later made calls)) is
 all_written_more t made later calls (Err why) is = tt
 
-pub all_written_by : (hub : Hub) (t : ℕ) (calls : List Call) → Stands hub calls → NoneUnsent (buffers_of hub t)
-    → IsAllWritten t calls
+pub all_written_by : (hub : Hub) (t : ℕ) (calls : List Call) → Stands true hub calls → NoneUnsent (buffers_of hub t)
+    → IsAllWritten true t calls
 all_written_by hub t calls s none opened =
     let (left, unsent, served, is) = s.served t in
     let b : Buffers = record { waiting = clipped left; unsent = unsent } in
     let has : buffers_of hub t ≡ Some b = is ∙ ap (λ o. cond o (Some b) None) opened in
     let empty : unsent ≡ [] = subst (λ (o : Option Buffers). NoneUnsent o) has none in
-    (left, subst (λ (u : List ℕ). IsServed t calls left u) empty served)
+    (left, subst (λ (u : List ℕ). IsServed true t calls left u) empty served)
 
 module _ {S T : Type 0} (remaining contents : S → Option (List ℕ)) (is_at : T → Course → Type 0) (t : ℕ) where
   pub did_both : {A B : Type 0} (May First Then Never Sure : Type 0) (x : A) (r : Result B Closing)
@@ -199,7 +199,7 @@ module _ {S T : Type 0} (remaining contents : S → Option (List ℕ)) (is_at : 
       let (later, dropped, on, goes, two, why, notes, begins, written) = then (made ++ calls) stands in (
         later ++ made,
         dropped,
-        subst (Stands new) (end_more t made later calls r) on,
+        subst (Stands true new) (end_more t made later calls r) on,
         subst (λ (ss : List Step). WentOn is_at store ss after) (sym (steps_both later made))
             (went_on_both is_at store mid after (all_steps made) (all_steps later) went goes),
         exchanged_both remaining contents t start stream left made later dropped
@@ -241,10 +241,10 @@ module _ {S T : Type 0} (remaining contents : S → Option (List ℕ)) (is_at : 
       let (made, stands, quiet, (is, (dropped, some, one))) = err.1 calls s in (
         [],
         dropped,
-        subst (λ (l : List Call). Stands new (l ++ calls)) is stands,
+        subst (λ (l : List Call). Stands true new (l ++ calls)) is stands,
         λ course at. (tt, at),
         one,
-        subst (λ w. IsClosedFor t [] calls dropped w) (sym err.0) (inl some),
+        subst (λ w. IsClosedFor true t [] calls dropped w) (sym err.0) (inl some),
         λ s u e. e,
         λ h. memory_begun (Unit {0}) t [] why err.0,
         λ h. tt,
@@ -253,7 +253,7 @@ module _ {S T : Type 0} (remaining contents : S → Option (List ℕ)) (is_at : 
   pub did_send : {A : Type 0} (Sure : Type 0) (r : Result A Closing) (users : Option Users) (old new : Hub) (start left : S)
       (store : T) → OnOk r (Makes old new (λ _ made. Exchanged remaining contents t start left made []))
       → IfErr r (λ why. (why ≡ Broken) × Makes old new (λ calls made. (earlier : List Call)
-      × (made ≡ Closed t ∷ earlier) × HasUnsent t (earlier ++ calls)
+      × (made ≡ Closed t ∷ earlier) × HasUnsent true t (earlier ++ calls)
       × Exchanged remaining contents t start left earlier []))
       → OnOk r (Sure → NoneUnsent (buffers_of new t))
       → Did remaining contents is_at t ⊥ Sure r users old start store users new left store
@@ -274,10 +274,10 @@ module _ {S T : Type 0} (remaining contents : S → Option (List ℕ)) (is_at : 
       let still : all_steps earlier ≡ [] = ap (λ (l : List Call). all_steps l) (sym is) ∙ quiet in (
         earlier,
         [],
-        subst (λ (l : List Call). Stands new (l ++ calls)) is stands,
+        subst (λ (l : List Call). Stands true new (l ++ calls)) is stands,
         quiet_went store (all_steps earlier) still,
         one,
-        subst (λ w. IsClosedFor t earlier calls [] w) (sym err.0) (refl, unsent),
+        subst (λ w. IsClosedFor true t earlier calls [] w) (sym err.0) (refl, unsent),
         quiet_noted users earlier still,
         never,
         λ sure. tt,
@@ -401,7 +401,7 @@ module _ {T : Type 0} (is_at : T → Course → Type 0) (t : ℕ) where
       let (made, stands, went, runs, none, noted, begun) = first calls s in
       let (later, on, goes, more, why, notes, begins) = then (made ++ calls) stands in (
         later ++ made,
-        subst (Stands new) (end_more t made later calls r) on,
+        subst (Stands true new) (end_more t made later calls r) on,
         subst (λ (ss : List Step). WentOn is_at store ss after) (sym (steps_both later made))
             (went_on_both is_at store mid after (all_steps made) (all_steps later) went goes),
         all_both (IsRunOf t) later made more runs,
@@ -427,7 +427,7 @@ module _ {T : Type 0} (is_at : T → Course → Type 0) (t : ℕ) where
   -- a line waits, so one at least is carried out if one may be
   begins_with : (stopped lost : Bool) (most : ℕ) (had : Option Buffers) (b : Buffers) (line rest : List ℕ)
       (lines : List (List ℕ)) (steps : List Step) → had ≡ Some b → b.waiting ≡ line ++ (10 ∷ rest) → IsPlain line
-      → 0 < most → IsTaken stopped lost most had lines steps → MayRun stopped had
+      → 0 < most → IsTaken true stopped lost most had lines steps → MayRun stopped had
       → 0 < length (lines_of t (Ran t lines steps ∷ []))
   begins_with stopped lost most had b line rest lines steps has waits plain some taken may =
       let (x, same, goes, whole, short) = has_run stopped had may in
@@ -442,16 +442,16 @@ module _ {T : Type 0} (is_at : T → Course → Type 0) (t : ℕ) where
       (store after : T) (most : ℕ) (b : Buffers) (line rest : List ℕ) → buffers_of old t ≡ Some b
       → b.waiting ≡ line ++ (10 ∷ rest) → IsPlain line → 0 < most
       → MatchResult r (λ _. lost ≡ false) (λ why. (why ≡ Memory) × (lost ≡ true))
-      → ((calls : List Call) → Stands old calls → (lines : List (List ℕ)) × (steps : List Step)
-      × IsTaken (is_stopped old) lost most (buffers_of old t) lines steps × Stands new (with_run lost t lines steps calls)
+      → ((calls : List Call) → Stands true old calls → (lines : List (List ℕ)) × (steps : List Step)
+      × IsTaken true (is_stopped old) lost most (buffers_of old t) lines steps × Stands true new (with_run lost t lines steps calls)
       × WentOn is_at store steps after × (all_steps (with_run lost t lines steps calls) ≡ all_steps calls ++ steps))
-      → ((lines : List (List ℕ)) (steps : List Step) → IsTaken (is_stopped old) lost most (buffers_of old t) lines steps
+      → ((lines : List (List ℕ)) (steps : List Step) → IsTaken true (is_stopped old) lost most (buffers_of old t) lines steps
       → HasNoted was now (Ran t lines steps ∷ []))
       → Carried is_at t (MayRun (is_stopped old) (buffers_of old t)) r was old store now new after
   carried_lines (Ok x) lost was now old new store after most b line rest has waits plain many is run noted = λ calls s.
       let (lines, steps, taken, stands, went, grew) = run calls s in (
         Ran t lines steps ∷ [],
-        subst (Stands new)
+        subst (Stands true new)
             (ap (λ o. with_run o t lines steps calls) is ∙ with_ran lines steps calls (open_at old t b has calls s)) stands,
         went,
         (refl, tt),
@@ -462,11 +462,11 @@ module _ {T : Type 0} (is_at : T → Course → Type 0) (t : ℕ) where
   carried_lines (Err why) lost was now old new store after most b line rest has waits plain many is run noted = λ calls s.
       let (lines, steps, taken, stands, went, grew) = run calls s in (
         Ran t lines steps ∷ [],
-        subst (Stands new)
+        subst (Stands true new)
             (ap (λ o. with_run o t lines steps calls) is.1 ∙ with_closed lines steps calls (open_at old t b has calls s)) stands,
         went,
         (refl, tt),
-        subst (λ w. IsClosedFor t (Ran t lines steps ∷ []) calls [] w) (sym is.0)
+        subst (λ w. IsClosedFor true t (Ran t lines steps ∷ []) calls [] w) (sym is.0)
             (inr (inr (ran_some lines steps (taken.some is.1)))),
         noted lines steps taken,
         λ may. memory_begun (Unit {0}) t (Ran t lines steps ∷ []) why is.0,
@@ -475,17 +475,17 @@ module _ {T : Type 0} (is_at : T → Course → Type 0) (t : ℕ) where
   -- its table can't hold the session of the line that waits
   pub carried_closed : {A : Type 0} (r : Result A Closing) (was now : Option Users) (old new : Hub) (store : T) (b : Buffers)
       → buffers_of old t ≡ Some b → has_line b.waiting ≡ true → MatchResult r (λ _. ⊥) (λ why. why ≡ Memory)
-      → ((calls : List Call) → Stands old calls → Stands new (with_call (Closed t) calls))
+      → ((calls : List Call) → Stands true old calls → Stands true new (with_call (Closed t) calls))
       → HasNoted was now []
       → Carried is_at t (MayRun (is_stopped old) (buffers_of old t)) r was old store now new store
   carried_closed (Ok x) was now old new store b has waits is closes noted = absurd is
   carried_closed (Err why) was now old new store b has waits is closes noted = λ calls s.
       let (left, served, so, opened) = served_at (buffers_of old) old.next (is_stopped old) calls t b s has in (
         [],
-        subst (Stands new) (ap (λ o. cond o (Closed t ∷ calls) calls) opened) (closes calls s),
+        subst (Stands true new) (ap (λ o. cond o (Closed t ∷ calls) calls) opened) (closes calls s),
         λ course at. (tt, at),
         tt,
-        subst (λ w. IsClosedFor t [] calls [] w) (sym is)
+        subst (λ w. IsClosedFor true t [] calls [] w) (sym is)
             (inr (inl (left, b.unsent, served, ap (λ (l : List ℕ). has_line l) (sym so) ∙ waits))),
         noted,
         λ may. memory_begun (Unit {0}) t [] why is,
@@ -509,9 +509,9 @@ only false = refl
 pub line_noted : (t : ℕ) (old new : Users) (stopped lost : Bool) (had : Option Buffers) (b : Buffers)
     (line rest : List ℕ) → stopped ≡ false → had ≡ Some b → b.waiting ≡ line ++ (10 ∷ rest) → IsPlain line
     → length b.unsent ≤ 65536
-    → ((text : List ℕ) (step : Step) → kept line ≡ kept text → IsStep text step → (s : List ℕ)
+    → ((keeps : Bool) (text : List ℕ) (step : Step) → kept line ≡ kept text → IsStepOf keeps text step → (s : List ℕ)
     → last_in new s ≡ cond (is_it s (session_in step)) (Some t) (last_in old s))
-    → (lines : List (List ℕ)) (steps : List Step) → IsTaken stopped lost 1 had lines steps
+    → (lines : List (List ℕ)) (steps : List Step) → IsTaken true stopped lost 1 had lines steps
     → HasNoted (Some old) (Some new) (Ran t lines steps ∷ [])
 line_noted t old new stopped lost had b line rest goes has waits plain short notes lines steps taken =
     let (text, others, is, same) = taken.first b line rest goes has waits plain short (omega arith) in
@@ -522,7 +522,7 @@ line_noted t old new stopped lost had b line rest goes has waits plain short not
     λ s u e.
     ap (λ (l : List Step). cond (is_used s l) (Some t) (last_in old s)) one
     ∙ ap (λ o. cond o (Some t) (last_in old s)) (only (is_it s (session_in step)))
-    ∙ sym (notes text step same made s) ∙ e
+    ∙ sym (notes true text step same made s) ∙ e
 
 pub nobody_noted : (made : List Call) → HasNoted None None made
 nobody_noted made = λ s u e. absurd (none-some u e)

@@ -1,6 +1,6 @@
 //! The connections that are served together.
 
-ghost use Rattle.std.specs.Prelude.{◌≡◌, [], false, is_some};
+ghost use Rattle.std.specs.Prelude.{true, ◌≡◌, [], false, is_some};
 ghost use Rattle.ssi_store.specs.Mirror.Stores.{IsAt};
 ghost use Rattle.ssi_hub.specs.Mirror.{is_stopped, Stands};
 ghost use Rattle.ssi_cli.specs.Clauses.Serving.{aborts};
@@ -32,7 +32,7 @@ pub(crate) struct Clients {
 
 impl Clients {
     pub(crate) fn new(alloc: Global, at_close: AtClose) -> Clients
-        ensures none { Stands result.hub [] }
+        ensures none { Stands true result.hub [] }
         ensures goes_on { is_stopped result.hub ≡ false }
         ensures table { is_some result.users ≡ aborts at_close }
     {

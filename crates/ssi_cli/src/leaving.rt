@@ -1,6 +1,6 @@
 //! What becomes of the sessions of a connection that is closed.
 
-ghost use Rattle.std.specs.Prelude.{◌≡◌, ℕ, List, [], ◌∷◌, ◌++◌, Some, None, is_some, IfOk};
+ghost use Rattle.std.specs.Prelude.{true, ◌≡◌, ℕ, List, [], ◌∷◌, ◌++◌, Some, None, is_some, IfOk};
 ghost use Rattle.ssi_store.specs.Meaning.Courses.{Abort};
 ghost use Rattle.ssi_store.specs.Mirror.Stores.{IsAt};
 ghost use Rattle.ssi_line.specs.Meaning.Spelling.{command_text};
@@ -75,7 +75,7 @@ fn abort<C: Chains + Drop, M: Marks + Drop>(
     hub: &mut Hub,
     store: &mut Store<C, M>,
 ) -> bool
-    ensures aborted { (calls : List Call) → Stands hub.old calls → (made : List Call) × Stands hub.new (made ++ calls)
+    ensures aborted { (calls : List Call) → Stands true hub.old calls → (made : List Call) × Stands true hub.new (made ++ calls)
         × WentOn (IsAt C.held M.marked) store.old (all_steps made) store.new × IsAbort session made calls }
     ensures gone { (t : ℕ) → buffers_of hub.old t ≡ None → buffers_of hub.new t ≡ None }
 {
@@ -105,7 +105,7 @@ fn abort_by<C: Chains + Drop, M: Marks + Drop>(
     store: &mut Store<C, M>,
 ) -> bool
     requires { line.now ≡ command_text (Abort session) ++ (10 ∷ []) }
-    ensures aborted { (calls : List Call) → Stands hub.old calls → (made : List Call) × Stands hub.new (made ++ calls)
+    ensures aborted { (calls : List Call) → Stands true hub.old calls → (made : List Call) × Stands true hub.new (made ++ calls)
         × WentOn (IsAt C.held M.marked) store.old (all_steps made) store.new × IsAbort session made calls }
     ensures gone { (t : ℕ) → buffers_of hub.old t ≡ None → buffers_of hub.new t ≡ None }
 {

@@ -41,7 +41,7 @@ pub use script::run_script;
 pub use script_fault::ScriptFault;
 pub use socket::{Served, run_socket, serve_socket};
 pub use status::Status;
-pub use store::new_store;
+pub use store::{new_live_store, new_store};
 pub use stream::Stream;
 pub use together::{AtClose, run_together, serve_together};
 pub use turns::turn;

@@ -113,8 +113,8 @@ fn serve<S: Stream, C: Chains + Drop, M: Marks + Drop>(
 fn end_if_done<S: Stream>(token: u64, peer: &mut Peer<S>, hub: &mut Hub) -> Result<(), Closing>
     ensures open { OnOk result (hub.new ≡ hub.old) }
     ensures finished { IfErr result (λ why. (why ≡ Closing.Ended) × (input_of peer.new ≢ Input.Open)
-        × ((calls : List Call) → Stands hub.old calls
-        → IsFinished token calls × Stands hub.new (Closed token ∷ calls))) }
+        × ((calls : List Call) → Stands true hub.old calls
+        → IsFinished true token calls × Stands true hub.new (Closed token ∷ calls))) }
     ensures stream { stream_of peer.new ≡ stream_of peer.old }
     ensures input { input_of peer.new ≡ input_of peer.old }
     ensures due { OnOk result (is_due peer.new ≡ false
@@ -184,9 +184,9 @@ fn receive<S: Stream>(
 /// Hands on bytes of a connection. `Closing::Memory` if memory can't hold them: then it is closed.
 pub(crate) fn hand_on(token: u64, bytes: &[u8], hub: &mut Hub) -> Result<(), Closing>
     ensures called { WasCalled hub.old hub.new }
-    ensures stands { (calls : List Call) → Stands hub.old calls
-        → MatchResult result (λ _. Stands hub.new (with_call (Received token bytes.now) calls))
-        (λ _. Stands hub.new (with_call (Closed token) calls)) }
+    ensures stands { (calls : List Call) → Stands true hub.old calls
+        → MatchResult result (λ _. Stands true hub.new (with_call (Received token bytes.now) calls))
+        (λ _. Stands true hub.new (with_call (Closed token) calls)) }
     ensures memory { IfErr result (λ why. why ≡ Closing.Memory) }
     ensures others { (t : ℕ) → t ≢ token → buffers_of hub.new t ≡ buffers_of hub.old t }
     ensures lost { IsErr result → buffers_of hub.new token ≡ None }
@@ -293,7 +293,7 @@ pub(crate) fn send<S: Stream>(token: u64, peer: &mut Peer<S>, hub: &mut Hub) -> 
     ensures written { OnOk result (Makes hub.old hub.new (λ _ made. Exchanged S.remaining S.contents token
         (stream_of peer.old) (stream_of peer.new) made [])) }
     ensures broken { IfErr result (λ why. (why ≡ Closing.Broken) × Makes hub.old hub.new (λ calls made. (earlier : List Call)
-        × (made ≡ Closed token ∷ earlier) × HasUnsent token (earlier ++ calls)
+        × (made ≡ Closed token ∷ earlier) × HasUnsent true token (earlier ++ calls)
         × Exchanged S.remaining S.contents token (stream_of peer.old) (stream_of peer.new) earlier [])) }
     ensures steady { IsErr result → S.is_steady (stream_of peer.old) ≡ true → ⊥ }
     ensures all { OnOk result (S.is_steady (stream_of peer.old) ≡ true → NoneUnsent (buffers_of hub.new token)) }

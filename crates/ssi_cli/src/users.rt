@@ -1,8 +1,8 @@
 //! Which connection has used each session last.
 
-ghost use Rattle.std.specs.Prelude.{◌≡◌, ◌≤◌, ℕ, List, length, true, None, Some, OnOk, OnErr, IfOk, IsSome, IfSome, is_some, if◌then◌else◌};
+ghost use Rattle.std.specs.Prelude.{◌≡◌, ◌≤◌, ℕ, Bool, List, length, true, None, Some, OnOk, OnErr, IfOk, IsSome, IfSome, is_some, if◌then◌else◌};
 ghost use Rattle.ssi_store.specs.Mirror.Commands.{command_of};
-ghost use Rattle.ssi_line.specs.Meaning.Steps.{Step, IsStep};
+ghost use Rattle.ssi_line.specs.Meaning.Steps.{Step, IsStepOf};
 ghost use Rattle.ssi_line.specs.Clauses.Answers.{kept};
 ghost use Rattle.ssi_cli.specs.Clauses.Serving.{aborts};
 ghost use Rattle.ssi_cli.specs.Meaning.Users.{session_of, session_in, is_it};
@@ -41,7 +41,8 @@ impl Users {
     /// Notes that the connection has sent this line: if it is a command of a session, the connection has used that one last.
     /// `AllocError` if memory runs out; then each session has the user that it had.
     pub fn note(&mut self, alloc: Global, token: u64, line: &[u8]) -> Result<(), AllocError>
-        ensures ok { OnOk result ((text : List ℕ) (step : Step) → kept line.now ≡ kept text → IsStep text step
+        ensures ok { OnOk result ((keeps : Bool) (text : List ℕ) (step : Step)
+            → kept line.now ≡ kept text → IsStepOf keeps text step
             → (s : List ℕ) → last_in self.new s ≡ (if is_it s (session_in step) then Some token else last_in self.old s)) }
         ensures err { OnErr result ((s : List ℕ) → last_in self.new s ≡ last_in self.old s) }
     {
@@ -59,7 +60,8 @@ impl Users {
         token: u64,
         line: &[u8],
     ) -> Result<Option<Session>, AllocError>
-        ensures session { IfOk result (λ session. (text : List ℕ) (step : Step) → kept line.now ≡ kept text → IsStep text step
+        ensures session { IfOk result (λ session. (keeps : Bool) (text : List ℕ) (step : Step)
+            → kept line.now ≡ kept text → IsStepOf keeps text step
             → session_in step ≡ session) }
         ensures room { IfOk result (λ session. IsSome session → HasRoom self.new) }
         ensures users { (s : List ℕ) → last_in self.new s ≡ last_in self.old s }
@@ -186,7 +188,8 @@ fn put(sessions: &mut IndexSet<Session>, session: Session) -> Result<(), AllocEr
 /// Returns the session that the line is a command of, if it is one.
 #[tactic(auto, using(crate::proofs::UsedLines::long_named))]
 fn session_in(line: &[u8]) -> Option<Session>
-    ensures { (text : List ℕ) (step : Step) → kept line.now ≡ kept text → IsStep text step → session_in step ≡ result }
+    ensures { (keeps : Bool) (text : List ℕ) (step : Step)
+        → kept line.now ≡ kept text → IsStepOf keeps text step → session_in step ≡ result }
 {
     commands_are_words();
     if line.len() > MAX_LINE_LEN {
@@ -197,7 +200,8 @@ fn session_in(line: &[u8]) -> Option<Session>
 
 fn session_in_short(line: &[u8]) -> Option<Session>
     requires { length line.now ≤ 4096 }
-    ensures { (text : List ℕ) (step : Step) → kept line.now ≡ kept text → IsStep text step → session_in step ≡ result }
+    ensures { (keeps : Bool) (text : List ℕ) (step : Step)
+        → kept line.now ≡ kept text → IsStepOf keeps text step → session_in step ≡ result }
 {
     let Some(asked) = read_line(line) else {
         return None;

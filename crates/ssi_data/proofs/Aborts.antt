@@ -6,10 +6,7 @@ use Rattle.std.specs.Cmp.Lexicographic.{pointwise}
 use Rattle.std.proofs.lemmas.Bool.{eq-eqb, false≢true}
 use Rattle.std.proofs.lemmas.Option.{none-some}
 use Rattle.sqlite_disk.specs.declared.Disk.{Ghosts}
-use Rattle.ssi_versions.specs.declared.chains.Chains.{Ghosts as HeldBy}
-use Rattle.ssi_reads.specs.declared.marks.Marks.{Ghosts as MarkedBy}
 use Rattle.ssi_store.specs.Meaning.Courses.{Course, Abort, txn_in}
-use Rattle.ssi_store.specs.declared.store.Store.{Store}
 use Rattle.ssi_line.specs.Meaning.Spelling.{command_text}
 use Rattle.ssi_line.specs.Meaning.Steps.{Step}
 use Rattle.ssi_hub.specs.declared.outcome.CarriedLine.{CarriedLine}
@@ -53,11 +50,11 @@ run_closed lost t lines steps calls opened = by_loss lost
         ap (with_call (Closed t)) once
         ∙ ap (λ o. cond o (Closed t ∷ Closed t ∷ Ran t lines steps ∷ calls) (Closed t ∷ Ran t lines steps ∷ calls)) gone
 
-module _ {C M D : Type 0} {g : HeldBy C} {h : MarkedBy M} {disk : Ghosts D} (is_at : Store C M g h → Course → Type 0) where
+module _ {T D : Type 0} {disk : Ghosts D} (dumps : Bool) (is_at : T → Course → Type 0) where
   -- the result says that nothing was carried out
-  pub not_done : {E : Type 0} (old new : Server C M D g h disk) (session : List ℕ) (r : Result Bool E)
-      → IfOk r (λ done. IsTrue done → ⊥) → Makes is_at old new (λ calls made. IsAbort session made calls)
-      → Makes is_at old new (λ calls made. HasTried session r calls made)
+  pub not_done : {E : Type 0} (old new : Server T D disk) (session : List ℕ) (r : Result Bool E)
+      → IfOk r (λ done. IsTrue done → ⊥) → Makes dumps is_at old new (λ calls made. IsAbort session made calls)
+      → Makes dumps is_at old new (λ calls made. HasTried session r calls made)
   not_done old new session (Ok done) none makes = λ n began calls s.
       let (made, serves, is) = makes n began calls s in
       (made, serves, record { abort = is; done = λ h. absurd (none h) })
@@ -65,9 +62,9 @@ module _ {C M D : Type 0} {g : HeldBy C} {h : MarkedBy M} {disk : Ghosts D} (is_
       let (made, serves, is) = makes n began calls s in (made, serves, record { abort = is; done = tt })
 
   -- a session of which nothing is carried out
-  pub none_opened : (old new : Server C M D g h disk) (session : List ℕ)
-      → ((n : ℕ) (began : Began) (calls : List Call) → Serves is_at n began old calls → Serves is_at n began new calls)
-      → Makes is_at old new (λ calls made. IsAbort session made calls)
+  pub none_opened : (old new : Server T D disk) (session : List ℕ)
+      → ((n : ℕ) (began : Began) (calls : List Call) → Serves dumps is_at n began old calls → Serves dumps is_at n began new calls)
+      → Makes dumps is_at old new (λ calls made. IsAbort session made calls)
   none_opened old new session same = λ n began calls s. (
     [],
     same n began calls s,
@@ -75,15 +72,15 @@ module _ {C M D : Type 0} {g : HeldBy C} {h : MarkedBy M} {disk : Ghosts D} (is_
   )
 
   -- it was opened, and closed before anything was carried out
-  pub only_opened : (old opened new : Server C M D g h disk) (session : List ℕ) (t : ℕ) → t ≡ next_token (hub_of old)
-      → ((n : ℕ) (began : Began) (calls : List Call) → Serves is_at n began old calls
-      → Serves is_at n began opened (Opened t ∷ calls))
-      → ((n : ℕ) (began : Began) (calls : List Call) → Serves is_at n began opened calls
-      → Serves is_at n began new (with_call (Closed t) calls))
-      → Makes is_at old new (λ calls made. IsAbort session made calls)
+  pub only_opened : (old opened new : Server T D disk) (session : List ℕ) (t : ℕ) → t ≡ next_token (hub_of old)
+      → ((n : ℕ) (began : Began) (calls : List Call) → Serves dumps is_at n began old calls
+      → Serves dumps is_at n began opened (Opened t ∷ calls))
+      → ((n : ℕ) (began : Began) (calls : List Call) → Serves dumps is_at n began opened calls
+      → Serves dumps is_at n began new (with_call (Closed t) calls))
+      → Makes dumps is_at old new (λ calls made. IsAbort session made calls)
   only_opened old opened new session t is opens closes = λ n began calls s. (
     Closed t ∷ Opened t ∷ [],
-    subst (λ (l : List Call). Serves is_at n began new l)
+    subst (λ (l : List Call). Serves dumps is_at n began new l)
         (ap (λ o. cond o (Closed t ∷ Opened t ∷ calls) (Opened t ∷ calls)) (open_now t calls))
         (closes n began (Opened t ∷ calls) (opens n began calls s)),
     record {
@@ -94,32 +91,32 @@ module _ {C M D : Type 0} {g : HeldBy C} {h : MarkedBy M} {disk : Ghosts D} (is_
     },
   )
 
-  module _ (old opened sent stepped new : Server C M D g h disk) (session line : List ℕ) (t : ℕ)
+  module _ (old opened sent stepped new : Server T D disk) (session line : List ℕ) (t : ℕ)
       (line_is : line ≡ command_text (Abort session) ++ (10 ∷ [])) (is : t ≡ next_token (hub_of old))
-      (opens : (n : ℕ) (began : Began) (calls : List Call) → Serves is_at n began old calls
-      → Serves is_at n began opened (Opened t ∷ calls))
-      (sends : (n : ℕ) (began : Began) (calls : List Call) → Serves is_at n began opened calls
-      → Serves is_at n began sent (with_call (Received t line) calls))
-      (closes : (n : ℕ) (began : Began) (calls : List Call) → Serves is_at n began stepped calls
-      → Serves is_at n began new (with_call (Closed t) calls)) where
-    received : (n : ℕ) (began : Began) (calls : List Call) → Serves is_at n began old calls
-        → Serves is_at n began sent (Received t line ∷ Opened t ∷ calls)
+      (opens : (n : ℕ) (began : Began) (calls : List Call) → Serves dumps is_at n began old calls
+      → Serves dumps is_at n began opened (Opened t ∷ calls))
+      (sends : (n : ℕ) (began : Began) (calls : List Call) → Serves dumps is_at n began opened calls
+      → Serves dumps is_at n began sent (with_call (Received t line) calls))
+      (closes : (n : ℕ) (began : Began) (calls : List Call) → Serves dumps is_at n began stepped calls
+      → Serves dumps is_at n began new (with_call (Closed t) calls)) where
+    received : (n : ℕ) (began : Began) (calls : List Call) → Serves dumps is_at n began old calls
+        → Serves dumps is_at n began sent (Received t line ∷ Opened t ∷ calls)
     received n began calls s =
-        subst (λ (l : List Call). Serves is_at n began sent l)
+        subst (λ (l : List Call). Serves dumps is_at n began sent l)
         (ap (λ o. cond o (Received t line ∷ Opened t ∷ calls) (Opened t ∷ calls)) (open_now t calls))
         (sends n began (Opened t ∷ calls) (opens n began calls s))
 
-    new_here : (n : ℕ) (began : Began) (calls : List Call) → Serves is_at n began old calls
+    new_here : (n : ℕ) (began : Began) (calls : List Call) → Serves dumps is_at n began old calls
         → AllByRecursion (λ c. token_of c < t) calls
     new_here n began calls s = subst (λ m. AllByRecursion (λ c. token_of c < m) calls) (sym is) s.stands.given
 
     -- nothing was carried out
-    pub sent_only : ((n : ℕ) (began : Began) (calls : List Call) → Serves is_at n began sent calls
-        → Serves is_at n began stepped calls)
-        → Makes is_at old new (λ calls made. IsAbort session made calls)
+    pub sent_only : ((n : ℕ) (began : Began) (calls : List Call) → Serves dumps is_at n began sent calls
+        → Serves dumps is_at n began stepped calls)
+        → Makes dumps is_at old new (λ calls made. IsAbort session made calls)
     sent_only same = λ n began calls s. (
       Closed t ∷ Received t line ∷ Opened t ∷ [],
-      subst (λ (l : List Call). Serves is_at n began new l)
+      subst (λ (l : List Call). Serves dumps is_at n began new l)
           (ap (λ o. cond o (Closed t ∷ Received t line ∷ Opened t ∷ calls) (Received t line ∷ Opened t ∷ calls)) (open_now t calls))
           (closes n began (Received t line ∷ Opened t ∷ calls)
           (same n began (Received t line ∷ Opened t ∷ calls) (received n began calls s))),
@@ -133,14 +130,14 @@ module _ {C M D : Type 0} {g : HeldBy C} {h : MarkedBy M} {disk : Ghosts D} (is_
 
     -- its line was carried out
     pub carried_out : (carried : CarriedLine)
-        → ((n : ℕ) (began : Began) (calls : List Call) → Serves is_at n began sent calls
-        → HasStepped is_at n began t calls sent stepped carried)
-        → {E : Type 0} {done : Bool} → Makes is_at old new (λ calls made. HasTried {E = E} session (Ok done) calls made)
+        → ((n : ℕ) (began : Began) (calls : List Call) → Serves dumps is_at n began sent calls
+        → HasStepped dumps is_at n began t calls sent stepped carried)
+        → {E : Type 0} {done : Bool} → Makes dumps is_at old new (λ calls made. HasTried {E = E} session (Ok done) calls made)
     carried_out carried steps = λ n began calls s.
         let before = Received t line ∷ Opened t ∷ calls in
         let (text, step, made, serves) = steps n began before (received n began calls s) in (
           Closed t ∷ Ran t (text ∷ []) (step ∷ []) ∷ Received t line ∷ Opened t ∷ [],
-          subst (λ (l : List Call). Serves is_at n began new l)
+          subst (λ (l : List Call). Serves dumps is_at n began new l)
               (run_closed (lost_by carried.outcome) t (text ∷ []) (step ∷ []) before (open_now t calls))
               (closes n began (with_run (lost_by carried.outcome) t (text ∷ []) (step ∷ []) before) serves),
           record {
@@ -156,34 +153,34 @@ module _ {C M D : Type 0} {g : HeldBy C} {h : MarkedBy M} {disk : Ghosts D} (is_
 
     -- its line was carried out, if it might be
     pub carried_maybe : (E : Type 0) (o : Option CarriedLine) (done : Bool) → done ≡ is_some o
-        → ((n : ℕ) (began : Began) (calls : List Call) → Serves is_at n began sent calls
-        → MatchOption o (Serves is_at n began stepped calls) (λ carried. HasStepped is_at n began t calls sent stepped carried))
-        → Makes is_at old new (λ calls made. HasTried {E = E} session (Ok done) calls made)
+        → ((n : ℕ) (began : Began) (calls : List Call) → Serves dumps is_at n began sent calls
+        → MatchOption o (Serves dumps is_at n began stepped calls) (λ carried. HasStepped dumps is_at n began t calls sent stepped carried))
+        → Makes dumps is_at old new (λ calls made. HasTried {E = E} session (Ok done) calls made)
     carried_maybe E None done is serves =
         not_done old new session (Ok done) (λ h. absurd (false≢true (sym is ∙ h))) (sent_only serves)
     carried_maybe E (Some carried) done is serves = carried_out carried serves
 
   -- ---- one abort after the other
 
-  pub none_aborted : (May : List ℕ → Type 0) (server : Server C M D g h disk) → HasAborted is_at May server server
+  pub none_aborted : (May : List ℕ → Type 0) (server : Server T D disk) → HasAborted dumps is_at May server server
   none_aborted May server = λ n began calls s. ([], s, tt)
 
-  pub one_more : {E : Type 0} (May : List ℕ → Type 0) (old mid new : Server C M D g h disk) (session : List ℕ)
-      (r : Result Bool E) → May session → HasAborted is_at May old mid
-      → Makes is_at mid new (λ calls made. HasTried session r calls made) → HasAborted is_at May old new
+  pub one_more : {E : Type 0} (May : List ℕ → Type 0) (old mid new : Server T D disk) (session : List ℕ)
+      (r : Result Bool E) → May session → HasAborted dumps is_at May old mid
+      → Makes dumps is_at mid new (λ calls made. HasTried session r calls made) → HasAborted dumps is_at May old new
   one_more May old mid new session r may first then = λ n began calls s.
       let (rest, serves, are) = first n began calls s in
       let (made, now, is) = then n began (abort_calls rest ++ calls) serves in (
         (session, made) ∷ rest,
-        subst (λ (l : List Call). Serves is_at n began new l) (sym (append_assoc made (abort_calls rest) calls)) now,
+        subst (λ (l : List Call). Serves dumps is_at n began new l) (sym (append_assoc made (abort_calls rest) calls)) now,
         (may, is.abort, are),
       )
 
   -- ---- one abort of an open session after the other
 
   -- a session that each course has open for which the store stands had a transaction
-  had_one : (n : ℕ) (began : Began) (calls : List Call) (server : Server C M D g h disk) (session : List ℕ)
-      → ((c : Course) → is_at (store_of server) c → is_some (txn_in session c) ≡ true) → Serves is_at n began server calls
+  had_one : (n : ℕ) (began : Began) (calls : List Call) (server : Server T D disk) (session : List ℕ)
+      → ((c : Course) → is_at (store_of server) c → is_some (txn_in session c) ≡ true) → Serves dumps is_at n began server calls
       → HadTransaction began calls session
   had_one n began calls server session one s = record {
     course = s.gone.end;
@@ -197,46 +194,46 @@ module _ {C M D : Type 0} {g : HeldBy C} {h : MarkedBy M} {disk : Ghosts D} (is_
     had = one s.gone.end s.gone.at;
   }
 
-  pub none_carried_out : (server : Server C M D g h disk) → HasCarriedOutAborts is_at server server
+  pub none_carried_out : (server : Server T D disk) → HasCarriedOutAborts dumps is_at server server
   none_carried_out server = λ n began calls s. ([], s, tt, tt)
 
-  pub carried_out_aborts : (old new : Server C M D g h disk) → HasCarriedOutAborts is_at old new → HasAbortedOpen is_at old new
+  pub carried_out_aborts : (old new : Server T D disk) → HasCarriedOutAborts dumps is_at old new → HasAbortedOpen dumps is_at old new
   carried_out_aborts old new has = λ n began calls s.
       let (list, serves, are, done) = has n began calls s in (list, serves, are)
 
-  pub one_more_open : {E : Type 0} (old mid new : Server C M D g h disk) (session : List ℕ) (r : Result Bool E)
-      → ((c : Course) → is_at (store_of mid) c → is_some (txn_in session c) ≡ true) → HasCarriedOutAborts is_at old mid
-      → Makes is_at mid new (λ calls made. HasTried session r calls made) → HasAbortedOpen is_at old new
+  pub one_more_open : {E : Type 0} (old mid new : Server T D disk) (session : List ℕ) (r : Result Bool E)
+      → ((c : Course) → is_at (store_of mid) c → is_some (txn_in session c) ≡ true) → HasCarriedOutAborts dumps is_at old mid
+      → Makes dumps is_at mid new (λ calls made. HasTried session r calls made) → HasAbortedOpen dumps is_at old new
   one_more_open old mid new session r one first then = λ n began calls s.
       let (rest, serves, are, done) = first n began calls s in
       let (made, now, is) = then n began (abort_calls rest ++ calls) serves in (
         (session, made) ∷ rest,
-        subst (λ (l : List Call). Serves is_at n began new l) (sym (append_assoc made (abort_calls rest) calls)) now,
+        subst (λ (l : List Call). Serves dumps is_at n began new l) (sym (append_assoc made (abort_calls rest) calls)) now,
         (had_one n began (abort_calls rest ++ calls) mid session one serves, is.abort, are),
       )
 
-  pub one_more_carried_out : {E : Type 0} (old mid new : Server C M D g h disk) (session : List ℕ)
-      → ((c : Course) → is_at (store_of mid) c → is_some (txn_in session c) ≡ true) → HasCarriedOutAborts is_at old mid
-      → Makes is_at mid new (λ calls made. HasTried {E = E} session (Ok true) calls made) → HasCarriedOutAborts is_at old new
+  pub one_more_carried_out : {E : Type 0} (old mid new : Server T D disk) (session : List ℕ)
+      → ((c : Course) → is_at (store_of mid) c → is_some (txn_in session c) ≡ true) → HasCarriedOutAborts dumps is_at old mid
+      → Makes dumps is_at mid new (λ calls made. HasTried {E = E} session (Ok true) calls made) → HasCarriedOutAborts dumps is_at old new
   one_more_carried_out old mid new session one first then = λ n began calls s.
       let (rest, serves, are, done) = first n began calls s in
       let (made, now, is) = then n began (abort_calls rest ++ calls) serves in (
         (session, made) ∷ rest,
-        subst (λ (l : List Call). Serves is_at n began new l) (sym (append_assoc made (abort_calls rest) calls)) now,
+        subst (λ (l : List Call). Serves dumps is_at n began new l) (sym (append_assoc made (abort_calls rest) calls)) now,
         (had_one n began (abort_calls rest ++ calls) mid session one serves, is.abort, are),
         (is.done refl, done),
       )
 
   -- and nothing was done since that calls show
-  pub open_still : (old mid new : Server C M D g h disk) → HasAbortedOpen is_at old mid
-      → ((n : ℕ) (began : Began) (calls : List Call) → Serves is_at n began mid calls → Serves is_at n began new calls)
-      → HasAbortedOpen is_at old new
+  pub open_still : (old mid new : Server T D disk) → HasAbortedOpen dumps is_at old mid
+      → ((n : ℕ) (began : Began) (calls : List Call) → Serves dumps is_at n began mid calls → Serves dumps is_at n began new calls)
+      → HasAbortedOpen dumps is_at old new
   open_still old mid new has same = λ n began calls s.
       let (list, serves, are) = has n began calls s in (list, same n began (abort_calls list ++ calls) serves, are)
 
-  pub carried_out_still : (old mid new : Server C M D g h disk) → HasCarriedOutAborts is_at old mid
-      → ((n : ℕ) (began : Began) (calls : List Call) → Serves is_at n began mid calls → Serves is_at n began new calls)
-      → HasCarriedOutAborts is_at old new
+  pub carried_out_still : (old mid new : Server T D disk) → HasCarriedOutAborts dumps is_at old mid
+      → ((n : ℕ) (began : Began) (calls : List Call) → Serves dumps is_at n began mid calls → Serves dumps is_at n began new calls)
+      → HasCarriedOutAborts dumps is_at old new
   carried_out_still old mid new has same = λ n began calls s.
       let (list, serves, are, done) = has n began calls s in
       (list, same n began (abort_calls list ++ calls) serves, are, done)

@@ -7,10 +7,7 @@ use Rattle.std.proofs.KnownBytes.{Consumes-nil, Appends-nil, Appends-trans}
 use Rattle.std.proofs.lemmas.Bool.{eq-eqb, both_ways}
 use Rattle.std.proofs.lemmas.Option.{same_Some, none-some}
 use Rattle.sqlite_disk.specs.declared.Disk.{Ghosts}
-use Rattle.ssi_versions.specs.declared.chains.Chains.{Ghosts as HeldBy}
-use Rattle.ssi_reads.specs.declared.marks.Marks.{Ghosts as MarkedBy}
 use Rattle.ssi_store.specs.Meaning.Courses.{Course}
-use Rattle.ssi_store.specs.declared.store.Store.{Store}
 use Rattle.ssi_hub.specs.Clauses.Buffers.{Buffers, first_unsent, with_written}
 use Rattle.ssi_hub.specs.Clauses.Clipping.{clipped}
 use Rattle.ssi_hub.specs.Clauses.Calls.{Call, Received, Wrote, Closed, token_of, is_open, with_call, sent_by, written_to, all_steps}
@@ -29,20 +26,20 @@ own t = eq-eqb t t refl
 
 -- ---- a connection that is open
 
-pub served_at : (b : ℕ → Option Buffers) (next : ℕ) (stopped : Bool) (calls : List Call) (t : ℕ) (x : Buffers)
-    → StandsFor b next stopped calls → b t ≡ Some x
-    → (left : List ℕ) × IsServed t calls left x.unsent × (x.waiting ≡ clipped left) × (is_open t calls ≡ true)
-served_at b next stopped calls t x s has =
+pub served_at : (dumps : Bool) (b : ℕ → Option Buffers) (next : ℕ) (stopped : Bool) (calls : List Call) (t : ℕ) (x : Buffers)
+    → StandsFor dumps b next stopped calls → b t ≡ Some x
+    → (left : List ℕ) × IsServed dumps t calls left x.unsent × (x.waiting ≡ clipped left) × (is_open t calls ≡ true)
+served_at dumps b next stopped calls t x s has =
     let (left, unsent, served, is) = s.served t in
     by_open left unsent served (is_open t calls) refl (sym has ∙ is)
   where
-    by_open : (left unsent : List ℕ) → IsServed t calls left unsent → (o : Bool) → is_open t calls ≡ o
+    by_open : (left unsent : List ℕ) → IsServed dumps t calls left unsent → (o : Bool) → is_open t calls ≡ o
         → Some x ≡ cond o (Some (record { waiting = clipped left; unsent = unsent })) None
-        → (left : List ℕ) × IsServed t calls left x.unsent × (x.waiting ≡ clipped left) × (is_open t calls ≡ true)
+        → (left : List ℕ) × IsServed dumps t calls left x.unsent × (x.waiting ≡ clipped left) × (is_open t calls ≡ true)
     by_open left unsent served true opened same =
         let now = same_Some x (record { waiting = clipped left; unsent = unsent }) same in (
           left,
-          subst (λ u. IsServed t calls left u) (sym (ap (λ (y : Buffers). y.unsent) now)) served,
+          subst (λ u. IsServed dumps t calls left u) (sym (ap (λ (y : Buffers). y.unsent) now)) served,
           ap (λ (y : Buffers). y.waiting) now,
           opened,
         )
@@ -124,62 +121,62 @@ exchanged_kept remaining contents t start old new made one same kept = record {
 
 -- ---- calls, one after the other
 
-module _ {C M D : Type 0} {g : HeldBy C} {h : MarkedBy M} {disk : Ghosts D} (is_at : Store C M g h → Course → Type 0) where
-  pub open_at : (server : Server C M D g h disk) (t : ℕ) (x : Buffers) → buffers_of (hub_of server) t ≡ Some x
-      → (n : ℕ) (began : Began) (calls : List Call) → Serves is_at n began server calls → is_open t calls ≡ true
+module _ {T D : Type 0} {disk : Ghosts D} (dumps : Bool) (is_at : T → Course → Type 0) where
+  pub open_at : (server : Server T D disk) (t : ℕ) (x : Buffers) → buffers_of (hub_of server) t ≡ Some x
+      → (n : ℕ) (began : Began) (calls : List Call) → Serves dumps is_at n began server calls → is_open t calls ≡ true
   open_at server t x has n began calls s =
       let hub = hub_of server in
-      let (left, served, waits, opened) = served_at (buffers_of hub) hub.next (is_stopped hub) calls t x s.stands has in opened
+      let (left, served, waits, opened) = served_at dumps (buffers_of hub) hub.next (is_stopped hub) calls t x s.stands has in opened
 
-  pub open_by : (Q : Buffers → Type 0) (server : Server C M D g h disk) (t : ℕ) (r : Bool)
+  pub open_by : (Q : Buffers → Type 0) (server : Server T D disk) (t : ℕ) (r : Bool)
       → MatchOption (buffers_of (hub_of server) t) (r ≡ false) Q → r ≡ true
-      → (n : ℕ) (began : Began) (calls : List Call) → Serves is_at n began server calls → is_open t calls ≡ true
+      → (n : ℕ) (began : Began) (calls : List Call) → Serves dumps is_at n began server calls → is_open t calls ≡ true
   open_by Q server t r m is n began calls s =
       let (x, has) = is_there Q (buffers_of (hub_of server) t) r m is in open_at server t x has n began calls s
 
-  pub makes_none : (server : Server C M D g h disk) (P : List Call → List Call → Type 0) → ((calls : List Call) → P calls [])
-      → MakesQuietly is_at server server P
+  pub makes_none : (server : Server T D disk) (P : List Call → List Call → Type 0) → ((calls : List Call) → P calls [])
+      → MakesQuietly dumps is_at server server P
   makes_none server P is = λ n began calls s. ([], s, refl, is calls)
 
-  pub makes_one : (old new : Server C M D g h disk) (c : Call) (P : List Call → List Call → Type 0)
-      → ((n : ℕ) (began : Began) (calls : List Call) → Serves is_at n began old calls
+  pub makes_one : (old new : Server T D disk) (c : Call) (P : List Call → List Call → Type 0)
+      → ((n : ℕ) (began : Began) (calls : List Call) → Serves dumps is_at n began old calls
       → is_open (token_of c) calls ≡ true) → all_steps (c ∷ []) ≡ []
-      → ((n : ℕ) (began : Began) (calls : List Call) → Serves is_at n began old calls
-      → Serves is_at n began new (with_call c calls))
-      → ((calls : List Call) → P calls (c ∷ [])) → MakesQuietly is_at old new P
+      → ((n : ℕ) (began : Began) (calls : List Call) → Serves dumps is_at n began old calls
+      → Serves dumps is_at n began new (with_call c calls))
+      → ((calls : List Call) → P calls (c ∷ [])) → MakesQuietly dumps is_at old new P
   makes_one old new c P opened quiet serves is = λ n began calls s. (
     c ∷ [],
-    subst (Serves is_at n began new) (ap (λ o. cond o (c ∷ calls) calls) (opened n began calls s)) (serves n began calls s),
+    subst (Serves dumps is_at n began new) (ap (λ o. cond o (c ∷ calls) calls) (opened n began calls s)) (serves n began calls s),
     quiet,
     is calls,
   )
 
   -- of two calls the first was made, or the second after an error
-  pub made_if_ok : {T E : Type 0} (r : Result T E) (old new : Server C M D g h disk) (c d : Call)
+  pub made_if_ok : {A E : Type 0} (r : Result A E) (old new : Server T D disk) (c d : Call)
       (P : List Call → List Call → Type 0)
-      → ((n : ℕ) (began : Began) (calls : List Call) → Serves is_at n began old calls
-      → MatchResult r (λ _. Serves is_at n began new (with_call c calls)) (λ _. Serves is_at n began new (with_call d calls)))
-      → ((n : ℕ) (began : Began) (calls : List Call) → Serves is_at n began old calls
+      → ((n : ℕ) (began : Began) (calls : List Call) → Serves dumps is_at n began old calls
+      → MatchResult r (λ _. Serves dumps is_at n began new (with_call c calls)) (λ _. Serves dumps is_at n began new (with_call d calls)))
+      → ((n : ℕ) (began : Began) (calls : List Call) → Serves dumps is_at n began old calls
       → is_open (token_of c) calls ≡ true) → all_steps (c ∷ []) ≡ []
-      → ((calls : List Call) → P calls (c ∷ [])) → OnOk r (MakesQuietly is_at old new P)
+      → ((calls : List Call) → P calls (c ∷ [])) → OnOk r (MakesQuietly dumps is_at old new P)
   made_if_ok (Ok x) old new c d P serves opened quiet is = makes_one old new c P opened quiet serves is
   made_if_ok (Err e) old new c d P serves opened quiet is = tt
 
-  pub made_if_err : {T E : Type 0} (r : Result T E) (why : E) (old new : Server C M D g h disk) (c d : Call)
+  pub made_if_err : {A E : Type 0} (r : Result A E) (why : E) (old new : Server T D disk) (c d : Call)
       (P : List Call → List Call → Type 0)
-      → ((n : ℕ) (began : Began) (calls : List Call) → Serves is_at n began old calls
-      → MatchResult r (λ _. Serves is_at n began new (with_call c calls)) (λ _. Serves is_at n began new (with_call d calls)))
-      → ((n : ℕ) (began : Began) (calls : List Call) → Serves is_at n began old calls
+      → ((n : ℕ) (began : Began) (calls : List Call) → Serves dumps is_at n began old calls
+      → MatchResult r (λ _. Serves dumps is_at n began new (with_call c calls)) (λ _. Serves dumps is_at n began new (with_call d calls)))
+      → ((n : ℕ) (began : Began) (calls : List Call) → Serves dumps is_at n began old calls
       → is_open (token_of d) calls ≡ true) → all_steps (d ∷ []) ≡ []
       → IfErr r (λ e. e ≡ why) → ((calls : List Call) → P calls (d ∷ []))
-      → IfErr r (λ e. (e ≡ why) × MakesQuietly is_at old new P)
+      → IfErr r (λ e. (e ≡ why) × MakesQuietly dumps is_at old new P)
   made_if_err (Ok x) why old new c d P serves opened quiet said is = tt
   made_if_err (Err e) why old new c d P serves opened quiet said is =
       (said, makes_one old new d P opened quiet serves is)
 
   -- ---- writing what is unsent
 
-  pub is_sent : (server : Server C M D g h disk) (t : ℕ) (bytes : List ℕ) → (is_settled server ≡ false → bytes ≡ [])
+  pub is_sent : (server : Server T D disk) (t : ℕ) (bytes : List ℕ) → (is_settled server ≡ false → bytes ≡ [])
       → (is_settled server ≡ true → MatchOption (buffers_of (hub_of server) t) (bytes ≡ []) (λ b. bytes ≡ b.unsent))
       → bytes ≡ to_send server t
   is_sent server t bytes none all = by_settled (is_settled server) none all
@@ -195,7 +192,7 @@ module _ {C M D : Type 0} {g : HeldBy C} {h : MarkedBy M} {disk : Ghosts D} (is_
       by_settled false none all = none refl
 
   -- if something may be sent, then it is what is unsent, and all lines that count are on the disk
-  has_unsent : (server : Server C M D g h disk) (t : ℕ) → 0 < length (to_send server t)
+  has_unsent : (server : Server T D disk) (t : ℕ) → 0 < length (to_send server t)
       → (is_settled server ≡ true) × ((x : Buffers) × (buffers_of (hub_of server) t ≡ Some x) × (to_send server t ≡ x.unsent))
   has_unsent server t some = by_settled (is_settled server) refl some
     where
@@ -209,7 +206,7 @@ module _ {C M D : Type 0} {g : HeldBy C} {h : MarkedBy M} {disk : Ghosts D} (is_
       by_settled true is some = (is, by_open (buffers_of (hub_of server) t) some)
       by_settled false is some = absurd (omega (arith, some))
 
-  pub sends_less : (server now : Server C M D g h disk) (t count : ℕ) → is_settled now ≡ is_settled server
+  pub sends_less : (server now : Server T D disk) (t count : ℕ) → is_settled now ≡ is_settled server
       → (is_settled server ≡ true → buffers_of (hub_of now) t ≡ option_map (with_written count) (buffers_of (hub_of server) t))
       → length (to_send now t) ≡ length (to_send server t) - count
   sends_less server now t count same less = by_settled (is_settled server) same less
@@ -229,16 +226,16 @@ module _ {C M D : Type 0} {g : HeldBy C} {h : MarkedBy M} {disk : Ghosts D} (is_
           ap (λ b. length (cond b (unsent_of (buffers_of (hub_of now) t)) [])) is ∙ omega arith
 
   module _ {S : Type 0} (remaining contents : S → Option (List ℕ)) (t : ℕ) (start old new : S)
-      (first server now : Server C M D g h disk) (bytes : List ℕ) (out : bytes ≡ to_send server t) (some : 0 < length bytes)
-      (makes : MakesQuietly is_at first server (λ _ made. Exchanged remaining contents t start old made [])) where
+      (first server now : Server T D disk) (bytes : List ℕ) (out : bytes ≡ to_send server t) (some : 0 < length bytes)
+      (makes : MakesQuietly dumps is_at first server (λ _ made. Exchanged remaining contents t start old made [])) where
     has : (is_settled server ≡ true) × ((x : Buffers) × (buffers_of (hub_of server) t ≡ Some x) × (to_send server t ≡ x.unsent))
     has = has_unsent server t (subst (λ (l : List ℕ). 0 < length l) out some)
 
     pub sends : (count : ℕ) → remaining new ≡ remaining old → Appends (contents old) (contents new) (take count bytes)
-        → ((n : ℕ) (began : Began) (calls : List Call) → Serves is_at n began server calls
-        → Serves is_at n began now (cond (is_settled server)
+        → ((n : ℕ) (began : Began) (calls : List Call) → Serves dumps is_at n began server calls
+        → Serves dumps is_at n began now (cond (is_settled server)
         (with_call (Wrote t (first_unsent count (buffers_of (hub_of server) t))) calls) calls))
-        → MakesQuietly is_at first now (λ _ made. Exchanged remaining contents t start new made [])
+        → MakesQuietly dumps is_at first now (λ _ made. Exchanged remaining contents t start new made [])
     sends count same wrote serves = λ n began calls s.
         let (settled, (x, there, is)) = has in
         let (made, mid, quiet, one) = makes n began calls s in
@@ -247,8 +244,8 @@ module _ {C M D : Type 0} {g : HeldBy C} {h : MarkedBy M} {disk : Ghosts D} (is_
         let wrote_now = first_unsent count (buffers_of (hub_of server) t) in
         let opened = open_at server t x there n began (made ++ calls) mid in (
           Wrote t wrote_now ∷ made,
-          subst (Serves is_at n began now) (ap (λ o. cond o (Wrote t wrote_now ∷ (made ++ calls)) (made ++ calls)) opened)
-              (subst (λ o. Serves is_at n began now (cond o (with_call (Wrote t wrote_now) (made ++ calls)) (made ++ calls)))
+          subst (Serves dumps is_at n began now) (ap (λ o. cond o (Wrote t wrote_now ∷ (made ++ calls)) (made ++ calls)) opened)
+              (subst (λ o. Serves dumps is_at n began now (cond o (with_call (Wrote t wrote_now) (made ++ calls)) (made ++ calls)))
               settled (serves n began (made ++ calls) mid)),
           quiet,
           exchanged_more remaining contents t start old new wrote_now made one same
@@ -256,18 +253,18 @@ module _ {C M D : Type 0} {g : HeldBy C} {h : MarkedBy M} {disk : Ghosts D} (is_
         )
 
     pub breaks : remaining new ≡ remaining old → Keeps (contents old) (contents new)
-        → ((n : ℕ) (began : Began) (calls : List Call) → Serves is_at n began server calls
-        → Serves is_at n began now (with_call (Closed t) calls))
-        → MakesQuietly is_at first now (λ calls made. (earlier : List Call) × (made ≡ Closed t ∷ earlier)
-        × HasUnsent t (earlier ++ calls) × Exchanged remaining contents t start new earlier [])
+        → ((n : ℕ) (began : Began) (calls : List Call) → Serves dumps is_at n began server calls
+        → Serves dumps is_at n began now (with_call (Closed t) calls))
+        → MakesQuietly dumps is_at first now (λ calls made. (earlier : List Call) × (made ≡ Closed t ∷ earlier)
+        × HasUnsent dumps t (earlier ++ calls) × Exchanged remaining contents t start new earlier [])
     breaks same kept serves = λ n began calls s.
         let (settled, (x, there, is)) = has in
         let (made, mid, quiet, one) = makes n began calls s in
         let hub = hub_of server in
         let (left, served, waits, opened) =
-        served_at (buffers_of hub) hub.next (is_stopped hub) (made ++ calls) t x mid.stands there in (
+        served_at dumps (buffers_of hub) hub.next (is_stopped hub) (made ++ calls) t x mid.stands there in (
           Closed t ∷ made,
-          subst (Serves is_at n began now) (ap (λ o. cond o (Closed t ∷ (made ++ calls)) (made ++ calls)) opened)
+          subst (Serves dumps is_at n began now) (ap (λ o. cond o (Closed t ∷ (made ++ calls)) (made ++ calls)) opened)
               (serves n began (made ++ calls) mid),
           quiet,
           (
@@ -279,10 +276,10 @@ module _ {C M D : Type 0} {g : HeldBy C} {h : MarkedBy M} {disk : Ghosts D} (is_
         )
 
   pub stays : {S : Type 0} (remaining contents : S → Option (List ℕ)) (t : ℕ) (start old new : S)
-      (first server : Server C M D g h disk)
-      → MakesQuietly is_at first server (λ _ made. Exchanged remaining contents t start old made [])
+      (first server : Server T D disk)
+      → MakesQuietly dumps is_at first server (λ _ made. Exchanged remaining contents t start old made [])
       → remaining new ≡ remaining old → Keeps (contents old) (contents new)
-      → MakesQuietly is_at first server (λ _ made. Exchanged remaining contents t start new made [])
+      → MakesQuietly dumps is_at first server (λ _ made. Exchanged remaining contents t start new made [])
   stays remaining contents t start old new first server makes same kept = λ n began calls s.
       let (made, mid, quiet, one) = makes n began calls s in
       (made, mid, quiet, exchanged_kept remaining contents t start old new made one same kept)

@@ -1,5 +1,5 @@
 -- From one segment to the next.
-use Rattle.std.proofs.Common.{◌≡◌, ◌<◌, ◌^◌, ℕ, List, ◌++◌, None, sym, ap, subst, ◌∙◌, arith}
+use Rattle.std.proofs.Common.{◌≡◌, ◌<◌, ◌^◌, ℕ, Bool, List, ◌++◌, None, sym, ap, subst, ◌∙◌, arith}
 use Rattle.std.specs.List.{All, AllByRecursion}
 use Rattle.sqlite_disk.specs.declared.Disk.{Ghosts}
 use Rattle.adya_keys.specs.Meaning.Keys.{Bytes}
@@ -7,11 +7,8 @@ use Rattle.adya_line.specs.Meaning.Limits.{IsFinal}
 use Rattle.adya_line.specs.Meaning.Lines.{IsPlain}
 use Rattle.adya_text.specs.Meaning.Texts.{with_ends}
 use Rattle.adya_values.specs.Meaning.Histories.{FinalPair}
-use Rattle.ssi_versions.specs.declared.chains.Chains.{Ghosts as HeldBy}
-use Rattle.ssi_reads.specs.declared.marks.Marks.{Ghosts as MarkedBy}
 use Rattle.ssi_store.specs.Meaning.Contents.{contents_after}
 use Rattle.ssi_store.specs.Meaning.Courses.{Course, txn_in}
-use Rattle.ssi_store.specs.declared.store.Store.{Store}
 use Rattle.ssi_hub.specs.Clauses.Calls.{Call}
 use Rattle.ssi_files.specs.Meaning.Names.{IsNumber}
 use Rattle.ssi_log.specs.declared.log.Log.{Log}
@@ -44,22 +41,22 @@ loads Has plain clean n first then one other small rows now text same within is 
     (loaded (first_lines n rows) (plain n rows within_u32 within) here
     (subst (λ (t : Bytes). HasNoZero t) (sym here) (clean n rows within_u32 within))))
 
-module _ {C M D : Type 0} {g : HeldBy C} {h : MarkedBy M} {disk : Ghosts D} (is_at : Store C M g h → Course → Type 0) (next : ℕ) where
+module _ {T D : Type 0} {disk : Ghosts D} (dumps : Bool) (is_at : T → Course → Type 0) (next : ℕ) where
   -- each session was aborted, and then the server has begun the next segment with what the store held
-  pub moves : (old mid seen new : Server C M D g h disk) (store : Store C M g h) (log : Log D disk) → seen ≡ mid
-      → HasAbortedOpen is_at old mid
+  pub moves : (old mid seen new : Server T D disk) (store : T) (log : Log D disk) → seen ≡ mid
+      → HasAbortedOpen dumps is_at old mid
       → ((c : Course) → is_at (store_of mid) c → (s : Bytes) → txn_in s c ≡ None)
       → ((c : Course) → is_at (store_of seen) c → IsReplayed is_at next (first_lines next (contents_after c)) store
       × HasAll log (first_lines next (contents_after c)))
-      → ((n number : ℕ) (began : Began) (lines : List Bytes) (calls : List Call) → Serves is_at n began mid calls
+      → ((n number : ℕ) (began : Began) (lines : List Bytes) (calls : List Call) → Serves dumps is_at n began mid calls
       → IsReplayed is_at number lines store → HasAll log lines
-      → Serves is_at number (record { lines = lines; before = calls }) new calls)
-      → (n : ℕ) (began : Began) (calls : List Call) → Serves is_at n began old calls → HasMoved is_at next began calls new
+      → Serves dumps is_at number (record { lines = lines; before = calls }) new calls)
+      → (n : ℕ) (began : Began) (calls : List Call) → Serves dumps is_at n began old calls → HasMoved dumps is_at next began calls new
   moves old mid seen new store log same has none loaded begins = λ n began calls s.
       let (aborts, serves, are) = has n began calls s in
       let course = serves.gone.end in
       let (replayed, all) =
-      loaded course (subst (λ (v : Server C M D g h disk). is_at (store_of v) course) (sym same) serves.gone.at) in
+      loaded course (subst (λ (v : Server T D disk). is_at (store_of v) course) (sym same) serves.gone.at) in
       record {
         aborts = aborts;
         are = are;
@@ -76,8 +73,8 @@ module _ {C M D : Type 0} {g : HeldBy C} {h : MarkedBy M} {disk : Ghosts D} (is_
       }
 
   -- it goes on as it was, but for the aborts
-  pub keeps : (old mid new : Server C M D g h disk) (r : Rotation) (fault : DataFault) → r ≡ Kept fault → new ≡ mid
-      → HasAbortedOpen is_at old mid → HasRotated is_at next old new r
+  pub keeps : (old mid new : Server T D disk) (r : Rotation) (fault : DataFault) → r ≡ Kept fault → new ≡ mid
+      → HasAbortedOpen dumps is_at old mid → HasRotated dumps is_at next old new r
   keeps old mid new r fault is same has =
-      subst (λ (v : Rotation). HasRotated is_at next old new v) (sym is)
-      (subst (λ (s : Server C M D g h disk). HasAbortedOpen is_at old s) (sym same) has)
+      subst (λ (v : Rotation). HasRotated dumps is_at next old new v) (sym is)
+      (subst (λ (s : Server T D disk). HasAbortedOpen dumps is_at old s) (sym same) has)

@@ -5,10 +5,7 @@ use Rattle.std.specs.List.{AllByRecursion}
 use Rattle.std.proofs.lemmas.Bool.{eq-eqb, false≢true}
 use Rattle.std.proofs.lemmas.Option.{none-some}
 use Rattle.sqlite_disk.specs.declared.Disk.{Ghosts}
-use Rattle.ssi_versions.specs.declared.chains.Chains.{Ghosts as HeldBy}
-use Rattle.ssi_reads.specs.declared.marks.Marks.{Ghosts as MarkedBy}
 use Rattle.ssi_store.specs.Meaning.Courses.{Course}
-use Rattle.ssi_store.specs.declared.store.Store.{Store}
 use Rattle.ssi_hub.specs.declared.hub.Hub.{Hub}
 use Rattle.ssi_hub.specs.Clauses.Buffers.{Buffers}
 use Rattle.ssi_hub.specs.Clauses.Clipping.{clipped}
@@ -53,23 +50,23 @@ calls_aborted (a ∷ rest) deeds =
 
 -- calls that the table has noted are deeds
 abbrev pub CallsAreDeeds : Type 0
-CallsAreDeeds = (was now : Option Users) (old new : Hub) (made : List Call) (deeds : List Deed) → AreDone was old deeds
-    → is_some now ≡ is_some was → HasNoted was now made → Stands new (made ++ calls_in deeds) → AreDone now new (called made deeds)
+CallsAreDeeds = (dumps : Bool) (was now : Option Users) (old new : Hub) (made : List Call) (deeds : List Deed) → AreDone dumps was old deeds
+    → is_some now ≡ is_some was → HasNoted was now made → Stands dumps new (made ++ calls_in deeds) → AreDone dumps now new (called made deeds)
 
 abbrev pub QuietAreNoted : Type 0
 QuietAreNoted = (users : Option Users) (made : List Call) → all_steps made ≡ [] → HasNoted users users made
 
 abbrev pub AbortsAreDeeds : Type 0
-AbortsAreDeeds = (was now : Option Users) (old new : Hub) (t : ℕ) (aborts : List (List ℕ × List Call)) (deeds : List Deed)
-    → AreDone was old deeds → is_some now ≡ is_some was → HasForgotten was now
+AbortsAreDeeds = (dumps : Bool) (was now : Option Users) (old new : Hub) (t : ℕ) (aborts : List (List ℕ × List Call)) (deeds : List Deed)
+    → AreDone dumps was old deeds → is_some now ≡ is_some was → HasForgotten was now
     → AreAborts (HasUsed was t) aborts (calls_in deeds) → is_open t (calls_in deeds) ≡ false
-    → Stands new (abort_calls aborts ++ calls_in deeds) → AreDone now new (aborted aborts deeds)
+    → Stands dumps new (abort_calls aborts ++ calls_in deeds) → AreDone dumps now new (aborted aborts deeds)
 
 -- ---- a connection that isn't open
 
-pub closed_at : (hub : Hub) (t : ℕ) → is_some (buffers_of hub t) ≡ false → (calls : List Call) → Stands hub calls
+pub closed_at : (dumps : Bool) (hub : Hub) (t : ℕ) → is_some (buffers_of hub t) ≡ false → (calls : List Call) → Stands dumps hub calls
     → is_open t calls ≡ false
-closed_at hub t gone calls s =
+closed_at dumps hub t gone calls s =
     let (left, unsent, served, has) = s.served t in by_open left unsent (is_open t calls) has
   where
     by_open : (left unsent : List ℕ) (o : Bool)
@@ -91,14 +88,14 @@ calls_first : (calls : List Call) → calls_in (called calls []) ≡ calls
 calls_first [] = refl
 calls_first (c ∷ calls) = ap (λ (l : List Call). c ∷ l) (calls_first calls)
 
-module _ {C M D : Type 0} {g : HeldBy C} {h : MarkedBy M} {disk : Ghosts D} (is_at : Store C M g h → Course → Type 0) where
-  pub first_done : (n : ℕ) (began : Began) (users : Option Users) (server : Server C M D g h disk) (calls : List Call)
-      → ((s : List ℕ) → last_at users s ≡ None) → Serves is_at n began server calls
-      → HasDone is_at n began users server (called calls [])
+module _ {T D : Type 0} {disk : Ghosts D} (dumps : Bool) (is_at : T → Course → Type 0) where
+  pub first_done : (n : ℕ) (began : Began) (users : Option Users) (server : Server T D disk) (calls : List Call)
+      → ((s : List ℕ) → last_at users s ≡ None) → Serves dumps is_at n began server calls
+      → HasDone dumps is_at n began users server (called calls [])
   first_done n began users server calls nobody s = record {
-    serves = subst (λ (l : List Call). Serves is_at n began server l) (sym (calls_first calls)) s;
+    serves = subst (λ (l : List Call). Serves dumps is_at n began server l) (sym (calls_first calls)) s;
     done = record {
-      stands = subst (λ (l : List Call). Stands (hub_of server) l) (sym (calls_first calls)) s.stands;
+      stands = subst (λ (l : List Call). Stands dumps (hub_of server) l) (sym (calls_first calls)) s.stands;
       due = due_called calls;
       none = λ e. all_called calls;
       known = λ s t e. absurd (none-some t (sym (nobody s) ∙ e));
@@ -107,56 +104,56 @@ module _ {C M D : Type 0} {g : HeldBy C} {h : MarkedBy M} {disk : Ghosts D} (is_
 
   -- ---- one part after the other
 
-  pub stays : (users : Option Users) (server : Server C M D g h disk) → GoesOn is_at users server users server
+  pub stays : (users : Option Users) (server : Server T D disk) → GoesOn dumps is_at users server users server
   stays users server = record { serves = λ n began calls s. ([], s); deeds = λ n began deeds d. ([], d) }
 
-  pub both : (a b c : Option Users) (old mid new : Server C M D g h disk) → GoesOn is_at a old b mid → GoesOn is_at b mid c new
-      → GoesOn is_at a old c new
+  pub both : (a b c : Option Users) (old mid new : Server T D disk) → GoesOn dumps is_at a old b mid → GoesOn dumps is_at b mid c new
+      → GoesOn dumps is_at a old c new
   both a b c old mid new first then = record {
     serves = λ n began calls s.
         let (made, on) = first.serves n began calls s in
         let (later, goes) = then.serves n began (made ++ calls) on in
-        (later ++ made, subst (λ (l : List Call). Serves is_at n began new l) (sym (append_assoc later made calls)) goes);
+        (later ++ made, subst (λ (l : List Call). Serves dumps is_at n began new l) (sym (append_assoc later made calls)) goes);
     deeds = λ n began deeds d.
         let (more, on) = first.deeds n began deeds d in
         let (later, goes) = then.deeds n began (more ++ deeds) on in
-        (later ++ more, subst (λ (l : List Deed). HasDone is_at n began c new l) (sym (append_assoc later more deeds)) goes);
+        (later ++ more, subst (λ (l : List Deed). HasDone dumps is_at n began c new l) (sym (append_assoc later more deeds)) goes);
   }
 
   -- what was changed since isn't seen
-  pub unseen : (was is now : Option Users) (old mid new : Server C M D g h disk) → now ≡ is → new ≡ mid
-      → GoesOn is_at was old is mid → GoesOn is_at was old now new
+  pub unseen : (was is now : Option Users) (old mid new : Server T D disk) → now ≡ is → new ≡ mid
+      → GoesOn dumps is_at was old is mid → GoesOn dumps is_at was old now new
   unseen was is now old mid new same kept first =
-      subst (λ (u : Option Users). GoesOn is_at was old u new) (sym same)
-      (subst (λ (s : Server C M D g h disk). GoesOn is_at was old is s) (sym kept) first)
+      subst (λ (u : Option Users). GoesOn dumps is_at was old u new) (sym same)
+      (subst (λ (s : Server T D disk). GoesOn dumps is_at was old is s) (sym kept) first)
 
   -- calls were made, and the table has noted them
-  by_calls : CallsAreDeeds → (was now : Option Users) (old new : Server C M D g h disk) → is_some now ≡ is_some was
-      → ((n : ℕ) (began : Began) (calls : List Call) → Serves is_at n began old calls
-      → (made : List Call) × Serves is_at n began new (made ++ calls) × HasNoted was now made)
-      → GoesOn is_at was old now new
+  by_calls : CallsAreDeeds → (was now : Option Users) (old new : Server T D disk) → is_some now ≡ is_some was
+      → ((n : ℕ) (began : Began) (calls : List Call) → Serves dumps is_at n began old calls
+      → (made : List Call) × Serves dumps is_at n began new (made ++ calls) × HasNoted was now made)
+      → GoesOn dumps is_at was old now new
   by_calls law was now old new table makes = record {
     serves = λ n began calls s. let (made, on, noted) = makes n began calls s in (made, on);
     deeds = λ n began deeds d.
         let (made, on, noted) = makes n began (calls_in deeds) d.serves in (
           called made [],
-          subst (λ (l : List Deed). HasDone is_at n began now new l) (sym (called_before made deeds))
+          subst (λ (l : List Deed). HasDone dumps is_at n began now new l) (sym (called_before made deeds))
               (record {
-                serves = subst (λ (l : List Call). Serves is_at n began new l) (sym (calls_called made deeds)) on;
-                done = law was now (hub_of old) (hub_of new) made deeds d.done table noted on.stands;
+                serves = subst (λ (l : List Call). Serves dumps is_at n began new l) (sym (calls_called made deeds)) on;
+                done = law dumps was now (hub_of old) (hub_of new) made deeds d.done table noted on.stands;
               }),
         );
   }
 
   -- nothing was done that calls show
-  pub same_calls : CallsAreDeeds → QuietAreNoted → (users : Option Users) (old new : Server C M D g h disk)
-      → ((n : ℕ) (began : Began) (calls : List Call) → Serves is_at n began old calls → Serves is_at n began new calls)
-      → GoesOn is_at users old users new
+  pub same_calls : CallsAreDeeds → QuietAreNoted → (users : Option Users) (old new : Server T D disk)
+      → ((n : ℕ) (began : Began) (calls : List Call) → Serves dumps is_at n began old calls → Serves dumps is_at n began new calls)
+      → GoesOn dumps is_at users old users new
   same_calls law quiet users old new same =
       by_calls law users users old new refl (λ n began calls s. ([], same n began calls s, quiet users [] refl))
 
-  pub quietly : CallsAreDeeds → QuietAreNoted → (users : Option Users) (old new : Server C M D g h disk)
-      (P : List Call → List Call → Type 0) → MakesQuietly is_at old new P → GoesOn is_at users old users new
+  pub quietly : CallsAreDeeds → QuietAreNoted → (users : Option Users) (old new : Server T D disk)
+      (P : List Call → List Call → Type 0) → MakesQuietly dumps is_at old new P → GoesOn dumps is_at users old users new
   quietly law quiet users old new P makes =
       by_calls law users users old new refl
       (λ n began calls s.
@@ -164,58 +161,58 @@ module _ {C M D : Type 0} {g : HeldBy C} {h : MarkedBy M} {disk : Ghosts D} (is_
 
   -- the same, whatever is returned
   pub quietly_either : {A E : Type 0} → CallsAreDeeds → QuietAreNoted → (r : Result A E) (users : Option Users)
-      (old new : Server C M D g h disk) (P Q : List Call → List Call → Type 0) (Why : E → Type 0)
-      → OnOk r (MakesQuietly is_at old new P) → IfErr r (λ e. Why e × MakesQuietly is_at old new Q)
-      → GoesOn is_at users old users new
+      (old new : Server T D disk) (P Q : List Call → List Call → Type 0) (Why : E → Type 0)
+      → OnOk r (MakesQuietly dumps is_at old new P) → IfErr r (λ e. Why e × MakesQuietly dumps is_at old new Q)
+      → GoesOn dumps is_at users old users new
   quietly_either law quiet (Ok x) users old new P Q Why ok err = quietly law quiet users old new P ok
   quietly_either law quiet (Err e) users old new P Q Why ok err = quietly law quiet users old new Q err.1
 
-  pub carries : CallsAreDeeds → (t : ℕ) (was now : Option Users) (old new : Server C M D g h disk)
+  pub carries : CallsAreDeeds → (t : ℕ) (was now : Option Users) (old new : Server T D disk)
       (R : List Call → List Call → Type 0) → is_some now ≡ is_some was
-      → Makes is_at old new (λ calls made. HasCarriedOut t was now calls made × R calls made) → GoesOn is_at was old now new
+      → Makes dumps is_at old new (λ calls made. HasCarriedOut dumps t was now calls made × R calls made) → GoesOn dumps is_at was old now new
   carries law t was now old new R table makes =
       by_calls law was now old new table
       (λ n began calls s.
       let (made, on, (carried, more)) = makes n began calls s in (made, on, carried.noted))
 
-  pub aborts : AbortsAreDeeds → (t : ℕ) (was now : Option Users) (old new : Server C M D g h disk) → is_some now ≡ is_some was
-      → HasForgotten was now → is_some (buffers_of (hub_of old) t) ≡ false → HasAborted is_at (HasUsed was t) old new
-      → GoesOn is_at was old now new
+  pub aborts : AbortsAreDeeds → (t : ℕ) (was now : Option Users) (old new : Server T D disk) → is_some now ≡ is_some was
+      → HasForgotten was now → is_some (buffers_of (hub_of old) t) ≡ false → HasAborted dumps is_at (HasUsed was t) old new
+      → GoesOn dumps is_at was old now new
   aborts law t was now old new table forgot gone has = record {
     serves = λ n began calls s. let (list, on, are) = has n began calls s in (abort_calls list, on);
     deeds = λ n began deeds d.
         let (list, on, are) = has n began (calls_in deeds) d.serves in (
           aborted list [],
-          subst (λ (l : List Deed). HasDone is_at n began now new l) (sym (aborted_before list deeds))
+          subst (λ (l : List Deed). HasDone dumps is_at n began now new l) (sym (aborted_before list deeds))
               (record {
-                serves = subst (λ (l : List Call). Serves is_at n began new l) (sym (calls_aborted list deeds)) on;
-                done = law was now (hub_of old) (hub_of new) t list deeds d.done table forgot are
-                    (closed_at (hub_of old) t gone (calls_in deeds) d.serves.stands) on.stands;
+                serves = subst (λ (l : List Call). Serves dumps is_at n began new l) (sym (calls_aborted list deeds)) on;
+                done = law dumps was now (hub_of old) (hub_of new) t list deeds d.done table forgot are
+                    (closed_at dumps (hub_of old) t gone (calls_in deeds) d.serves.stands) on.stands;
               }),
         );
   }
 
   -- a connection was opened, or memory ran out
-  pub opens : CallsAreDeeds → QuietAreNoted → (t : ℕ) (users : Option Users) (old new : Server C M D g h disk)
-      → ((n : ℕ) (began : Began) (calls : List Call) → Serves is_at n began old calls
-      → Serves is_at n began new (Opened t ∷ calls))
-      → GoesOn is_at users old users new
+  pub opens : CallsAreDeeds → QuietAreNoted → (t : ℕ) (users : Option Users) (old new : Server T D disk)
+      → ((n : ℕ) (began : Began) (calls : List Call) → Serves dumps is_at n began old calls
+      → Serves dumps is_at n began new (Opened t ∷ calls))
+      → GoesOn dumps is_at users old users new
   opens law quiet t users old new opened =
       by_calls law users users old new refl
       (λ n began calls s. (Opened t ∷ [], opened n began calls s, quiet users (Opened t ∷ []) refl))
 
   -- it was closed at once
-  pub opens_and_closes : CallsAreDeeds → QuietAreNoted → (t : ℕ) (users : Option Users) (old mid new : Server C M D g h disk)
-      → ((n : ℕ) (began : Began) (calls : List Call) → Serves is_at n began old calls
-      → Serves is_at n began mid (Opened t ∷ calls))
-      → ((n : ℕ) (began : Began) (calls : List Call) → Serves is_at n began mid calls
-      → Serves is_at n began new (with_call (Closed t) calls))
-      → GoesOn is_at users old users new
+  pub opens_and_closes : CallsAreDeeds → QuietAreNoted → (t : ℕ) (users : Option Users) (old mid new : Server T D disk)
+      → ((n : ℕ) (began : Began) (calls : List Call) → Serves dumps is_at n began old calls
+      → Serves dumps is_at n began mid (Opened t ∷ calls))
+      → ((n : ℕ) (began : Began) (calls : List Call) → Serves dumps is_at n began mid calls
+      → Serves dumps is_at n began new (with_call (Closed t) calls))
+      → GoesOn dumps is_at users old users new
   opens_and_closes law quiet t users old mid new opened closed =
       by_calls law users users old new refl
       (λ n began calls s. (
         Closed t ∷ Opened t ∷ [],
-        subst (λ (l : List Call). Serves is_at n began new l)
+        subst (λ (l : List Call). Serves dumps is_at n began new l)
             (ap (λ o. cond o (Closed t ∷ Opened t ∷ calls) (Opened t ∷ calls)) (open_now calls))
             (closed n began (Opened t ∷ calls) (opened n began calls s)),
         quiet users (Closed t ∷ Opened t ∷ []) refl,
@@ -234,7 +231,7 @@ fails P Q done (Ok x) more passed failed = tt
 fails {A} P Q done (Err e) more passed failed =
     more ((subst (λ (d : Result A LogFault). IfErr d (λ fault. is_full fault ≡ false → P)) passed.0 failed) passed.1)
 
-pub failed_still : {C M D : Type 0} {g : HeldBy C} {h : MarkedBy M} {disk : Ghosts D} {old new : Server C M D g h disk}
+pub failed_still : {T D : Type 0} {disk : Ghosts D} {old new : Server T D disk}
     → new ≡ old → has_failed old ≡ true → has_failed new ≡ true
-failed_still {C} {M} {D} {g} {h} {disk} same failed =
-    ap (λ (s : Server C M D g h disk). has_failed s) same ∙ failed
+failed_still {T} {D} {disk} same failed =
+    ap (λ (s : Server T D disk). has_failed s) same ∙ failed

@@ -7,10 +7,7 @@ use Rattle.std.proofs.lemmas.Bool.{eq-eqb, both_ways, false≢true, and_parts, l
 use Rattle.std.proofs.lemmas.Option.{none-some}
 use Rattle.std.proofs.lemmas.List.Elements.{All-head, All-tail}
 use Rattle.sqlite_disk.specs.declared.Disk.{Ghosts}
-use Rattle.ssi_versions.specs.declared.chains.Chains.{Ghosts as HeldBy}
-use Rattle.ssi_reads.specs.declared.marks.Marks.{Ghosts as MarkedBy}
 use Rattle.ssi_store.specs.Meaning.Courses.{Course}
-use Rattle.ssi_store.specs.declared.store.Store.{Store}
 use Rattle.ssi_line.specs.Meaning.Steps.{Step, Stopped, AllGoOn, is_stop}
 use Rattle.ssi_hub.specs.declared.outcome.CarriedLine.{CarriedLine}
 use Rattle.ssi_hub.specs.Clauses.Buffers.{Buffers}
@@ -181,23 +178,23 @@ closed_after t made runs calls is opened =
     not_closed t runs calls (ap (λ (l : List Call). is_open t (l ++ calls)) (sym is) ∙ opened)
 
 -- lines were carried out, and then more of a connection that was open
-carried_on : (t : ℕ) (was is now : Option Users) (calls runs later : List Call) → AllByRecursion (IsRunOf t) runs
-    → HasNoted was is runs → HasCarriedOut t is now (runs ++ calls) later → HasCarriedOut t was now calls (later ++ runs)
-carried_on t was is now calls runs later are noted then = record {
+carried_on : (dumps : Bool) (t : ℕ) (was is now : Option Users) (calls runs later : List Call) → AllByRecursion (IsRunOf t) runs
+    → HasNoted was is runs → HasCarriedOut dumps t is now (runs ++ calls) later → HasCarriedOut dumps t was now calls (later ++ runs)
+carried_on dumps t was is now calls runs later are noted then = record {
   runs = then.runs ++ runs;
   are = all_both (IsRunOf t) then.runs runs then.are are;
   noted = noted_both was is now runs later noted then.noted;
   ends = by_end then.ends;
 }
   where
-    by_end : (later ≡ then.runs) ⊎ ((later ≡ Closed t ∷ then.runs) × (HasWaiting t (then.runs ++ (runs ++ calls))
+    by_end : (later ≡ then.runs) ⊎ ((later ≡ Closed t ∷ then.runs) × (HasWaiting dumps t (then.runs ++ (runs ++ calls))
         ⊎ (0 < length (lines_of t then.runs))))
         → (later ++ runs ≡ then.runs ++ runs) ⊎ ((later ++ runs ≡ Closed t ∷ (then.runs ++ runs))
-        × (HasWaiting t ((then.runs ++ runs) ++ calls) ⊎ (0 < length (lines_of t (then.runs ++ runs)))))
+        × (HasWaiting dumps t ((then.runs ++ runs) ++ calls) ⊎ (0 < length (lines_of t (then.runs ++ runs)))))
     by_end (inl same) = inl (ap (λ (l : List Call). l ++ runs) same)
     by_end (inr (same, inl waits)) = inr (
       ap (λ (l : List Call). l ++ runs) same,
-      inl (subst (λ (l : List Call). HasWaiting t l) (sym (append_assoc then.runs runs calls)) waits),
+      inl (subst (λ (l : List Call). HasWaiting dumps t l) (sym (append_assoc then.runs runs calls)) waits),
     )
     by_end (inr (same, inr some)) =
         let both : length (lines_of t (then.runs ++ runs)) ≡ length (lines_of t runs) + length (lines_of t then.runs) =
@@ -205,13 +202,13 @@ carried_on t was is now calls runs later are noted then = record {
         ∙ length-append (lines_of t runs) (lines_of t then.runs) in
         inr (ap (λ (l : List Call). l ++ runs) same, inr (omega (arith, some, both)))
 
-module _ {C M D : Type 0} {g : HeldBy C} {h : MarkedBy M} {disk : Ghosts D} (is_at : Store C M g h → Course → Type 0) (t : ℕ) where
+module _ {T D : Type 0} {disk : Ghosts D} (dumps : Bool) (is_at : T → Course → Type 0) (t : ℕ) where
   -- lines of the connection were carried out, and one at least if `May` holds
-  abbrev pub Carried : (May : Type 0) (was now : Option Users) (old new : Server C M D g h disk) → Type 0
-  Carried May was now old new = Makes is_at old new (λ calls made. HasCarriedOut t was now calls made × (May → 0 < length made))
+  abbrev pub Carried : (May : Type 0) (was now : Option Users) (old new : Server T D disk) → Type 0
+  Carried May was now old new = Makes dumps is_at old new (λ calls made. HasCarriedOut dumps t was now calls made × (May → 0 < length made))
 
-  pub carried_none : (May : Type 0) (users : Option Users) (old new : Server C M D g h disk) → (May → ⊥)
-      → ((n : ℕ) (began : Began) (calls : List Call) → Serves is_at n began old calls → Serves is_at n began new calls)
+  pub carried_none : (May : Type 0) (users : Option Users) (old new : Server T D disk) → (May → ⊥)
+      → ((n : ℕ) (began : Began) (calls : List Call) → Serves dumps is_at n began old calls → Serves dumps is_at n began new calls)
       → Carried May users users old new
   carried_none May users old new idle same = λ n began calls s. (
     [],
@@ -220,9 +217,9 @@ module _ {C M D : Type 0} {g : HeldBy C} {h : MarkedBy M} {disk : Ghosts D} (is_
   )
 
   -- the table may have noted what is the same for clauses
-  pub carried_same : (May : Type 0) (was now : Option Users) (old new : Server C M D g h disk) → (May → ⊥)
+  pub carried_same : (May : Type 0) (was now : Option Users) (old new : Server T D disk) → (May → ⊥)
       → HasNoted was now []
-      → ((n : ℕ) (began : Began) (calls : List Call) → Serves is_at n began old calls → Serves is_at n began new calls)
+      → ((n : ℕ) (began : Began) (calls : List Call) → Serves dumps is_at n began old calls → Serves dumps is_at n began new calls)
       → Carried May was now old new
   carried_same May was now old new idle noted same = λ n began calls s. (
     [],
@@ -231,31 +228,31 @@ module _ {C M D : Type 0} {g : HeldBy C} {h : MarkedBy M} {disk : Ghosts D} (is_
   )
 
   -- a line was carried out, and its reply was lost or wasn't
-  pub carried_step : (May : Type 0) (was now : Option Users) (old new : Server C M D g h disk) (carried : CarriedLine)
+  pub carried_step : (May : Type 0) (was now : Option Users) (old new : Server T D disk) (carried : CarriedLine)
       (x : Buffers) → buffers_of (hub_of old) t ≡ Some x
-      → ((n : ℕ) (began : Began) (calls : List Call) → Serves is_at n began old calls
-      → HasStepped is_at n began t calls old new carried)
+      → ((n : ℕ) (began : Began) (calls : List Call) → Serves dumps is_at n began old calls
+      → HasStepped dumps is_at n began t calls old new carried)
       → ((line : List ℕ) (step : Step)
-      → IsLineStep is_at (buffers_of (hub_of old) t) (store_of old) carried line step (store_of new)
+      → IsLineStep dumps is_at (buffers_of (hub_of old) t) (store_of old) carried line step (store_of new)
       → (s : List ℕ) (u : ℕ) → last_at now s ≡ Some u → cond (is_it s (session_in step)) (Some t) (last_at was s) ≡ Some u)
       → Carried May was now old new
   carried_step May was now old new carried x has steps notes = λ n began calls s.
       let (line, step, is, serves) = steps n began calls s in
-      let opened = open_at is_at old t x has n began calls s in
+      let opened = open_at dumps is_at old t x has n began calls s in
       let now_is = with_step t (lost_by carried.outcome) line step calls opened in
-      by_loss n began calls line step is (lost_by carried.outcome) (subst (λ (l : List Call). Serves is_at n began new l) now_is serves)
+      by_loss n began calls line step is (lost_by carried.outcome) (subst (λ (l : List Call). Serves dumps is_at n began new l) now_is serves)
     where
       noted_runs : (line : List ℕ) (step : Step)
-          → IsLineStep is_at (buffers_of (hub_of old) t) (store_of old) carried line step (store_of new)
+          → IsLineStep dumps is_at (buffers_of (hub_of old) t) (store_of old) carried line step (store_of new)
           → HasNoted was now (ran t line step ∷ [])
       noted_runs line step is = λ s u e.
           ap (λ o. cond o (Some t) (last_at was s)) (only (is_it s (session_in step))) ∙ notes line step is s u e
 
       by_loss : (n : ℕ) (began : Began) (calls : List Call) (line : List ℕ) (step : Step)
-          → IsLineStep is_at (buffers_of (hub_of old) t) (store_of old) carried line step (store_of new)
-          → (o : Bool) → Serves is_at n began new (cond o (Closed t ∷ ran t line step ∷ calls) (ran t line step ∷ calls))
-          → (made : List Call) × Serves is_at n began new (made ++ calls)
-          × (HasCarriedOut t was now calls made × (May → 0 < length made))
+          → IsLineStep dumps is_at (buffers_of (hub_of old) t) (store_of old) carried line step (store_of new)
+          → (o : Bool) → Serves dumps is_at n began new (cond o (Closed t ∷ ran t line step ∷ calls) (ran t line step ∷ calls))
+          → (made : List Call) × Serves dumps is_at n began new (made ++ calls)
+          × (HasCarriedOut dumps t was now calls made × (May → 0 < length made))
       by_loss n began calls line step is true serves = (
         Closed t ∷ ran t line step ∷ [],
         serves,
@@ -279,17 +276,17 @@ module _ {C M D : Type 0} {g : HeldBy C} {h : MarkedBy M} {disk : Ghosts D} (is_
       )
 
   -- its table can't hold the session of the line that waits
-  pub carried_closed : (May : Type 0) (was now : Option Users) (old new : Server C M D g h disk) (x : Buffers)
+  pub carried_closed : (May : Type 0) (was now : Option Users) (old new : Server T D disk) (x : Buffers)
       → buffers_of (hub_of old) t ≡ Some x → has_line x.waiting ≡ true
-      → ((n : ℕ) (began : Began) (calls : List Call) → Serves is_at n began old calls
-      → Serves is_at n began new (with_call (Closed t) calls))
+      → ((n : ℕ) (began : Began) (calls : List Call) → Serves dumps is_at n began old calls
+      → Serves dumps is_at n began new (with_call (Closed t) calls))
       → HasNoted was now []
       → Carried May was now old new
   carried_closed May was now old new x has waits closes noted = λ n began calls s.
       let hub = hub_of old in
-      let (left, served, so, opened) = served_at (buffers_of hub) hub.next (is_stopped hub) calls t x s.stands has in (
+      let (left, served, so, opened) = served_at dumps (buffers_of hub) hub.next (is_stopped hub) calls t x s.stands has in (
         Closed t ∷ [],
-        subst (λ (l : List Call). Serves is_at n began new l) (ap (λ o. cond o (Closed t ∷ calls) calls) opened)
+        subst (λ (l : List Call). Serves dumps is_at n began new l) (ap (λ o. cond o (Closed t ∷ calls) calls) opened)
             (closes n began calls s),
         (
           record {
@@ -302,15 +299,15 @@ module _ {C M D : Type 0} {g : HeldBy C} {h : MarkedBy M} {disk : Ghosts D} (is_
         ),
       )
 
-  pub carried_if : (May More : Type 0) (was now : Option Users) (old new : Server C M D g h disk) → (May → More)
+  pub carried_if : (May More : Type 0) (was now : Option Users) (old new : Server T D disk) → (May → More)
       → Carried More was now old new → Carried May was now old new
   carried_if May More was now old new more first = λ n began calls s.
       let (made, serves, (carried, some)) = first n began calls s in
       (made, serves, (carried, λ may. some (more may)))
 
-  pub carried_both : (May First Then : Type 0) (was is now : Option Users) (old mid new : Server C M D g h disk)
+  pub carried_both : (May First Then : Type 0) (was is now : Option Users) (old mid new : Server T D disk)
       → (May → First ⊎ Then) → Carried First was is old mid
-      → ((n : ℕ) (began : Began) (calls : List Call) → Serves is_at n began mid calls → is_open t calls ≡ true)
+      → ((n : ℕ) (began : Began) (calls : List Call) → Serves dumps is_at n began mid calls → is_open t calls ≡ true)
       → Carried Then is now mid new → Carried May was now old new
   carried_both May First Then was is now old mid new which first opened then = λ n began calls s.
       let (made, serves, (carried, some)) = first n began calls s in
@@ -321,30 +318,30 @@ module _ {C M D : Type 0} {g : HeldBy C} {h : MarkedBy M} {disk : Ghosts D} (is_
       more runs later some others (inl f) = omega (arith, length-append later runs, some f)
       more runs later some others (inr t) = omega (arith, length-append later runs, others t)
 
-      by_end : (n : ℕ) (began : Began) (calls made : List Call) → Serves is_at n began mid (made ++ calls)
-          → (carried : HasCarriedOut t was is calls made) → (First → 0 < length made)
-          → (made ≡ carried.runs) ⊎ ((made ≡ Closed t ∷ carried.runs) × (HasWaiting t (carried.runs ++ calls)
+      by_end : (n : ℕ) (began : Began) (calls made : List Call) → Serves dumps is_at n began mid (made ++ calls)
+          → (carried : HasCarriedOut dumps t was is calls made) → (First → 0 < length made)
+          → (made ≡ carried.runs) ⊎ ((made ≡ Closed t ∷ carried.runs) × (HasWaiting dumps t (carried.runs ++ calls)
           ⊎ (0 < length (lines_of t carried.runs))))
-          → (made : List Call) × Serves is_at n began new (made ++ calls)
-          × (HasCarriedOut t was now calls made × (May → 0 < length made))
+          → (made : List Call) × Serves dumps is_at n began new (made ++ calls)
+          × (HasCarriedOut dumps t was now calls made × (May → 0 < length made))
       by_end n began calls made serves carried some (inl same) =
           let (later, on, (goes, others)) = then n began (made ++ calls) serves in
           let runs = subst (λ (l : List Call). AllByRecursion (IsRunOf t) l) (sym same) carried.are in (
             later ++ made,
-            subst (λ (l : List Call). Serves is_at n began new l) (sym (append_assoc later made calls)) on,
-            (carried_on t was is now calls made later runs carried.noted goes, λ may. more made later some others (which may)),
+            subst (λ (l : List Call). Serves dumps is_at n began new l) (sym (append_assoc later made calls)) on,
+            (carried_on dumps t was is now calls made later runs carried.noted goes, λ may. more made later some others (which may)),
           )
       by_end n began calls made serves carried some (inr (same, why)) =
           absurd (closed_after t made carried.runs calls same (opened n began (made ++ calls) serves))
 
   -- a line that may be carried out is
-  pub carried_maybe : (was now : Option Users) (old new : Server C M D g h disk) (o : Option CarriedLine)
+  pub carried_maybe : (was now : Option Users) (old new : Server T D disk) (o : Option CarriedLine)
       → MayRun (is_stopped (hub_of old)) (buffers_of (hub_of old) t)
       → is_some o ≡ may_step (is_stopped (hub_of old)) (buffers_of (hub_of old) t)
-      → ((n : ℕ) (began : Began) (calls : List Call) → Serves is_at n began old calls
-      → MatchOption o (Serves is_at n began new calls) (λ carried. HasStepped is_at n began t calls old new carried))
+      → ((n : ℕ) (began : Began) (calls : List Call) → Serves dumps is_at n began old calls
+      → MatchOption o (Serves dumps is_at n began new calls) (λ carried. HasStepped dumps is_at n began t calls old new carried))
       → ((carried : CarriedLine) (line : List ℕ) (step : Step)
-      → IsLineStep is_at (buffers_of (hub_of old) t) (store_of old) carried line step (store_of new)
+      → IsLineStep dumps is_at (buffers_of (hub_of old) t) (store_of old) carried line step (store_of new)
       → (s : List ℕ) (u : ℕ) → last_at now s ≡ Some u → cond (is_it s (session_in step)) (Some t) (last_at was s) ≡ Some u)
       → Carried (Unit {0}) was now old new
   carried_maybe was now old new None may when serves notes =
@@ -353,32 +350,32 @@ module _ {C M D : Type 0} {g : HeldBy C} {h : MarkedBy M} {disk : Ghosts D} (is_
       let (b, has, goes, waits, short) = has_run (is_stopped (hub_of old)) (buffers_of (hub_of old) t) may in
       carried_step (Unit {0}) was now old new carried b has serves (notes carried)
 
-  pub if_ok : (was now : Option Users) (old new : Server C M D g h disk) → Carried (Unit {0}) was now old new
-      → Makes is_at old new (λ calls made. HasCarriedOut t was now calls made × (0 < length made))
+  pub if_ok : (was now : Option Users) (old new : Server T D disk) → Carried (Unit {0}) was now old new
+      → Makes dumps is_at old new (λ calls made. HasCarriedOut dumps t was now calls made × (0 < length made))
   if_ok was now old new first = λ n began calls s.
       let (made, serves, (carried, some)) = first n began calls s in (made, serves, (carried, some tt))
 
-  pub if_err : (was now : Option Users) (old new : Server C M D g h disk) → Carried ⊥ was now old new
-      → Makes is_at old new (λ calls made. HasCarriedOut t was now calls made × Unit {0})
+  pub if_err : (was now : Option Users) (old new : Server T D disk) → Carried ⊥ was now old new
+      → Makes dumps is_at old new (λ calls made. HasCarriedOut dumps t was now calls made × Unit {0})
   if_err was now old new first = λ n began calls s.
       let (made, serves, (carried, some)) = first n began calls s in (made, serves, (carried, tt))
 
   -- the same of a line whose result is passed on
-  pub if_passed : {A E : Type 0} (r : Result A E) (May : Type 0) (was now : Option Users) (old new : Server C M D g h disk)
+  pub if_passed : {A E : Type 0} (r : Result A E) (May : Type 0) (was now : Option Users) (old new : Server T D disk)
       → IsErr r → Carried ⊥ was now old new
-      → Makes is_at old new (λ calls made. HasCarriedOut t was now calls made × (May → OnOk r (0 < length made)))
+      → Makes dumps is_at old new (λ calls made. HasCarriedOut dumps t was now calls made × (May → OnOk r (0 < length made)))
   if_passed (Ok x) May was now old new is first = absurd (false≢true is)
   if_passed (Err e) May was now old new is first = λ n began calls s.
       let (made, serves, (carried, some)) = first n began calls s in (made, serves, (carried, λ may. tt))
 
-  pub of_ok : (was now : Option Users) (old new : Server C M D g h disk)
-      → Makes is_at old new (λ calls made. HasCarriedOut t was now calls made × (0 < length made))
+  pub of_ok : (was now : Option Users) (old new : Server T D disk)
+      → Makes dumps is_at old new (λ calls made. HasCarriedOut dumps t was now calls made × (0 < length made))
       → Carried (Unit {0}) was now old new
   of_ok was now old new first = λ n began calls s.
       let (made, serves, (carried, some)) = first n began calls s in (made, serves, (carried, λ may. some))
 
-  pub of_err : (was now : Option Users) (old new : Server C M D g h disk)
-      → Makes is_at old new (λ calls made. HasCarriedOut t was now calls made × Unit {0}) → Carried ⊥ was now old new
+  pub of_err : (was now : Option Users) (old new : Server T D disk)
+      → Makes dumps is_at old new (λ calls made. HasCarriedOut dumps t was now calls made × Unit {0}) → Carried ⊥ was now old new
   of_err was now old new first = λ n began calls s.
       let (made, serves, (carried, none)) = first n began calls s in (made, serves, (carried, λ may. absurd may))
 
@@ -402,26 +399,26 @@ has_sent : (o : Option Buffers) → HasAllSent o → (b : Buffers) × (o ≡ Som
 has_sent None sent = absurd sent
 has_sent (Some b) sent = (b, refl, sent)
 
-module _ {C M D : Type 0} {g : HeldBy C} {h : MarkedBy M} {disk : Ghosts D} (is_at : Store C M g h → Course → Type 0) (t : ℕ) where
-  pub finishes : (old new : Server C M D g h disk) → HasAllSent (buffers_of (hub_of old) t)
+module _ {T D : Type 0} {disk : Ghosts D} (dumps : Bool) (is_at : T → Course → Type 0) (t : ℕ) where
+  pub finishes : (old new : Server T D disk) → HasAllSent (buffers_of (hub_of old) t)
       → (MayRun (is_stopped (hub_of old)) (buffers_of (hub_of old) t) → ⊥)
-      → ((n : ℕ) (began : Began) (calls : List Call) → Serves is_at n began old calls
-      → Serves is_at n began new (with_call (Closed t) calls))
-      → MakesQuietly is_at old new (λ calls made. (made ≡ Closed t ∷ []) × IsFinished t calls)
+      → ((n : ℕ) (began : Began) (calls : List Call) → Serves dumps is_at n began old calls
+      → Serves dumps is_at n began new (with_call (Closed t) calls))
+      → MakesQuietly dumps is_at old new (λ calls made. (made ≡ Closed t ∷ []) × IsFinished dumps t calls)
   finishes old new sent idle closes = λ n began calls s.
       let hub = hub_of old in
       let (b, has, none) = has_sent (buffers_of hub t) sent in
-      let (left, served, so, there) = served_at (buffers_of hub) hub.next (is_stopped hub) calls t b s.stands has in
+      let (left, served, so, there) = served_at dumps (buffers_of hub) hub.next (is_stopped hub) calls t b s.stands has in
       let cant = subst (λ (o : Option Buffers). MayRun (is_stopped hub) o → ⊥) has idle in (
         Closed t ∷ [],
-        subst (λ (l : List Call). Serves is_at n began new l) (ap (λ o. cond o (Closed t ∷ calls) calls) there)
+        subst (λ (l : List Call). Serves dumps is_at n began new l) (ap (λ o. cond o (Closed t ∷ calls) calls) there)
             (closes n began calls s),
         refl,
         (
           refl,
           (
             left,
-            subst (λ (l : List ℕ). IsServed t calls left l) none served,
+            subst (λ (l : List ℕ). IsServed dumps t calls left l) none served,
             λ all. ap (λ (l : List ℕ). has_line l) (sym so)
                 ∙ none_waits (is_stopped hub) (has_line b.waiting) b.unsent
                 (not_stopped (is_stopped hub) (all_steps calls) s.stands.ends all) none cant,
@@ -431,31 +428,31 @@ module _ {C M D : Type 0} {g : HeldBy C} {h : MarkedBy M} {disk : Ghosts D} (is_
 
   module _ {S A : Type 0} (remaining contents : S → Option (List ℕ)) (start left end : S) where
     -- the client took no more
-    pub replied_broken : (r : Result A Closing) (why : Closing) (old new : Server C M D g h disk) → r ≡ Err why
-        → (why ≡ Broken) × MakesQuietly is_at old new (λ calls made. (earlier : List Call)
-        × (made ≡ Closed t ∷ earlier) × HasUnsent t (earlier ++ calls)
+    pub replied_broken : (r : Result A Closing) (why : Closing) (old new : Server T D disk) → r ≡ Err why
+        → (why ≡ Broken) × MakesQuietly dumps is_at old new (λ calls made. (earlier : List Call)
+        × (made ≡ Closed t ∷ earlier) × HasUnsent dumps t (earlier ++ calls)
         × Exchanged remaining contents t start left earlier [])
-        → MakesQuietly is_at old new (λ calls made. HasReplied remaining contents t start left r calls made)
+        → MakesQuietly dumps is_at old new (λ calls made. HasReplied dumps remaining contents t start left r calls made)
     replied_broken r why old new is broken = λ n began calls s.
         let (made, serves, quiet, (earlier, same, unsent, one)) = broken.1 n began calls s in (
           made,
           serves,
           quiet,
-          subst (λ (v : Result A Closing). HasReplied remaining contents t start left v calls made)
+          subst (λ (v : Result A Closing). HasReplied dumps remaining contents t start left v calls made)
               (sym (is ∙ ap (λ (w : Closing). Err w) broken.0))
               (record { writes = earlier; is = same; exchanged = one; left = (refl, unsent) }),
         )
 
     -- what it took was written, and it was closed if there is no more to do
-    pub replied : (r : Result A Closing) (old mid new : Server C M D g h disk) (P : Type 0) → end ≡ left
-        → MakesQuietly is_at old mid (λ _ made. Exchanged remaining contents t start left made [])
+    pub replied : (r : Result A Closing) (old mid new : Server T D disk) (P : Type 0) → end ≡ left
+        → MakesQuietly dumps is_at old mid (λ _ made. Exchanged remaining contents t start left made [])
         → OnOk r (new ≡ mid)
-        → IfErr r (λ why. (why ≡ Ended) × P × MakesQuietly is_at mid new (λ calls made. (made ≡ Closed t ∷ []) × IsFinished t calls))
-        → MakesQuietly is_at old new (λ calls made. HasReplied remaining contents t start end r calls made)
+        → IfErr r (λ why. (why ≡ Ended) × P × MakesQuietly dumps is_at mid new (λ calls made. (made ≡ Closed t ∷ []) × IsFinished dumps t calls))
+        → MakesQuietly dumps is_at old new (λ calls made. HasReplied dumps remaining contents t start end r calls made)
     replied (Ok x) old mid new P same sent stays closes = λ n began calls s.
         let (made, serves, quiet, one) = sent n began calls s in (
           made,
-          subst (λ (v : Server C M D g h disk). Serves is_at n began v (made ++ calls)) (sym stays) serves,
+          subst (λ (v : Server T D disk). Serves dumps is_at n began v (made ++ calls)) (sym stays) serves,
           quiet,
           record {
             writes = made;
@@ -468,9 +465,9 @@ module _ {C M D : Type 0} {g : HeldBy C} {h : MarkedBy M} {disk : Ghosts D} (is_
         let (made, serves, quiet, one) = sent n began calls s in
         let (later, on, still, (is, finished)) = closes.2 n began (made ++ calls) serves in (
           Closed t ∷ made,
-          subst (λ (l : List Call). Serves is_at n began new (l ++ (made ++ calls))) is on,
+          subst (λ (l : List Call). Serves dumps is_at n began new (l ++ (made ++ calls))) is on,
           quiet,
-          subst (λ (w : Closing). HasReplied {A = A} remaining contents t start end (Err w) calls (Closed t ∷ made)) (sym closes.0)
+          subst (λ (w : Closing). HasReplied {A = A} dumps remaining contents t start end (Err w) calls (Closed t ∷ made)) (sym closes.0)
               (record {
                 writes = made;
                 is = refl;

@@ -1,11 +1,8 @@
 -- What clauses see of a server, and of the sockets of its connections.
-use Rattle.std.specs.Prelude.{ℕ, if◌then◌else◌, [], Option, Some, None}
+use Rattle.std.specs.Prelude.{ℕ, Bool, if◌then◌else◌, [], Option, Some, None}
 use Rattle.sqlite_disk.specs.declared.Disk.{Ghosts}
 use Rattle.adya_keys.specs.Meaning.Keys.{Bytes}
-use Rattle.ssi_versions.specs.declared.chains.Chains.{Ghosts as HeldBy}
-use Rattle.ssi_reads.specs.declared.marks.Marks.{Ghosts as MarkedBy}
 use Rattle.ssi_store.specs.Meaning.Courses.{Course}
-use Rattle.ssi_store.specs.declared.store.Store.{Store}
 use Rattle.ssi_hub.specs.Clauses.Buffers.{Buffers}
 use Rattle.ssi_hub.specs.Mirror.{buffers_of}
 use Rattle.ssi_durable.specs.declared.server.Server.{Server}
@@ -19,22 +16,22 @@ abbrev pub unsent_of : Option Buffers → Bytes
 unsent_of None = []
 unsent_of (Some b) = b.unsent
 
-module _ {C M D : Type 0} {g : HeldBy C} {h : MarkedBy M} {disk : Ghosts D} where
+module _ {T D : Type 0} {disk : Ghosts D} where
   -- those that may be: none before all lines that count are on the disk
-  abbrev pub to_send : Server C M D g h disk → ℕ → Bytes
+  abbrev pub to_send : Server T D disk → ℕ → Bytes
   to_send s t = if is_settled s then unsent_of (buffers_of (hub_of s) t) else []
 
-  abbrev pub server_of : Clients C M D g h disk → Server C M D g h disk
+  abbrev pub server_of : Clients T D disk → Server T D disk
   server_of clients = clients.server
 
   -- who has used each session last, as far as that is kept
-  abbrev pub users_of : Clients C M D g h disk → Option Users
+  abbrev pub users_of : Clients T D disk → Option Users
   users_of clients = clients.users
 
   -- the log is left once it has more bytes
-  abbrev pub due_of : Clients C M D g h disk → ℕ
+  abbrev pub due_of : Clients T D disk → ℕ
   due_of clients = clients.due
 
   -- its server and its table have gone on
-  abbrev pub GoOn : (Store C M g h → Course → Type 0) → (old new : Clients C M D g h disk) → Type 0
-  GoOn is_at old new = GoesOn is_at (users_of old) (server_of old) (users_of new) (server_of new)
+  abbrev pub GoOn : (dumps : Bool) → (T → Course → Type 0) → (old new : Clients T D disk) → Type 0
+  GoOn dumps is_at old new = GoesOn dumps is_at (users_of old) (server_of old) (users_of new) (server_of new)

@@ -2,7 +2,6 @@
 
 ghost use Rattle.std.specs.Prelude.{◌≡◌, List, ℕ, None, true, false, IsTrue, IfOk, IfErr, OnOk};
 ghost use Rattle.ssi_store.specs.Meaning.Courses.{Course, txn_in};
-ghost use Rattle.ssi_store.specs.Mirror.Stores.{IsAt};
 ghost use Rattle.ssi_durable.specs.Clauses.Journals.{is_full};
 ghost use Rattle.ssi_durable.specs.Mirror.Servers.{has_failed, is_settled, store_of};
 ghost use Rattle.ssi_data.specs.Clauses.Aborting.{HasAbortedOpen, HasCarriedOutAborts};
@@ -10,22 +9,21 @@ ghost use Rattle.ssi_data.specs.Clauses.Aborting.{HasAbortedOpen, HasCarriedOutA
 use crate::leaving::abort;
 use sqlite_disk::Disk;
 use ssi_durable::Server;
+use ssi_line::ProtocolStore;
 use ssi_log::LogFault;
-use ssi_reads::Marks;
-use ssi_versions::Chains;
 use std::alloc::Global;
 
 /// Aborts each session that has a transaction, by lines as if another connection had sent them, and waits until this is on the
 /// disk. Returns whether no session has one then: some are left if memory runs out. `Full` if there is no room in the log for the
 /// next abort, and the file can't grow. After any other fault the log has failed.
-pub fn abort_open<C: Chains + Drop, M: Marks + Drop, D: Disk + Drop>(
+pub fn abort_open<T: ProtocolStore + Drop, D: Disk + Drop>(
     alloc: Global,
-    server: &mut Server<C, M, D>,
+    server: &mut Server<T, D>,
 ) -> Result<bool, LogFault>
-    ensures aborts { HasAbortedOpen (IsAt C.held M.marked) server.old server.new }
-    ensures all { IfOk result (λ all. IsTrue all → HasCarriedOutAborts (IsAt C.held M.marked) server.old server.new) }
+    ensures aborts { HasAbortedOpen T.keeps T.is_at server.old server.new }
+    ensures all { IfOk result (λ all. IsTrue all → HasCarriedOutAborts T.keeps T.is_at server.old server.new) }
     ensures settled { OnOk result (is_settled server.new ≡ true) }
-    ensures idle { IfOk result (λ all. IsTrue all → (c : Course) → IsAt C.held M.marked (store_of server.new) c
+    ensures idle { IfOk result (λ all. IsTrue all → (c : Course) → T.is_at (store_of server.new) c
         → (s : List ℕ) → txn_in s c ≡ None) }
     ensures fault { IfErr result (λ fault. is_full fault ≡ false → has_failed server.new ≡ true) }
 {
@@ -35,12 +33,12 @@ pub fn abort_open<C: Chains + Drop, M: Marks + Drop, D: Disk + Drop>(
 }
 
 /// Aborts each session that has a transaction. Returns whether each abort was carried out, until no session had one.
-fn abort_each_open<C: Chains + Drop, M: Marks + Drop, D: Disk + Drop>(
+fn abort_each_open<T: ProtocolStore + Drop, D: Disk + Drop>(
     alloc: Global,
-    server: &mut Server<C, M, D>,
+    server: &mut Server<T, D>,
 ) -> Result<bool, LogFault>
-    ensures aborts { HasAbortedOpen (IsAt C.held M.marked) server.old server.new }
-    ensures all { IfOk result (λ all. IsTrue all → HasCarriedOutAborts (IsAt C.held M.marked) server.old server.new) }
+    ensures aborts { HasAbortedOpen T.keeps T.is_at server.old server.new }
+    ensures all { IfOk result (λ all. IsTrue all → HasCarriedOutAborts T.keeps T.is_at server.old server.new) }
     ensures fault { IfErr result (λ fault. is_full fault ≡ false → has_failed server.new ≡ true) }
 {
     for _ in 0..u64::MAX {

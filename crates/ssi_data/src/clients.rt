@@ -3,7 +3,6 @@
 ghost use Rattle.std.specs.Prelude.{◌≡◌, ◌+◌, ◌-◌, ◌/◌, ◌^◌, ℕ, List, [], None, true, false, is_some, min, nat_lt, IsTrue, OnOk, OnErr, IfOk, IfErr};
 ghost use Rattle.adya_keys.specs.Meaning.Keys.{Bytes};
 ghost use Rattle.ssi_store.specs.Meaning.Courses.{Course, txn_in};
-ghost use Rattle.ssi_store.specs.Mirror.Stores.{IsAt};
 ghost use Rattle.ssi_hub.specs.Clauses.Calls.{Call};
 ghost use Rattle.ssi_hub.specs.Mirror.{buffers_of, is_stopped};
 ghost use Rattle.ssi_log.specs.Machinery.Standing.{end_of};
@@ -28,9 +27,8 @@ use sqlite_disk::Disk;
 use ssi_cli::laws::{aborts_are_deeds, calls_are_deeds};
 use ssi_cli::{AtClose, MOST_CLIENTS, Peers, Users, users_for};
 use ssi_durable::Server;
+use ssi_line::ProtocolStore;
 use ssi_log::LogFault;
-use ssi_reads::Marks;
-use ssi_versions::Chains;
 use std::alloc::Global;
 use std::io;
 use std::time::Duration;
@@ -40,8 +38,8 @@ const ROOM_AGAIN: u64 = 1;
 
 /// A server, with the sockets of its connections.
 #[derive(Drop)]
-pub struct Clients<C: Chains + Drop, M: Marks + Drop, D: Disk + Drop> {
-    server: Server<C, M, D>,
+pub struct Clients<T: Drop, D: Disk + Drop> {
+    server: Server<T, D>,
     peers: Peers,
     // kept if sessions are aborted when a connection is closed
     users: Option<Users>,
@@ -55,24 +53,24 @@ pub struct Clients<C: Chains + Drop, M: Marks + Drop, D: Disk + Drop> {
     due: usize,
 }
 
-impl<C: Chains + Drop, M: Marks + Drop, D: Disk + Drop> Clients<C, M, D> {
+impl<T: ProtocolStore + Drop, D: Disk + Drop> Clients<T, D> {
     ghost use Rattle.ssi_data.specs.Mirror.{GoOn, due_of, server_of, users_of};
 
     /// Those of a server that has no connection yet. Its segment is left once its log has more than `most` bytes, and more than
     /// twice as many as its loads, which have `loaded` bytes.
     pub fn new(
         alloc: Global,
-        server: Server<C, M, D>,
+        server: Server<T, D>,
         at_close: AtClose,
         most: usize,
         loaded: usize,
-    ) -> Clients<C, M, D>
+    ) -> Clients<T, D>
         ensures server { server_of result ≡ server }
         ensures table { is_some (users_of result) ≡ aborts at_close }
         ensures due { due_of result ≡ due_len most loaded }
         // What the server has served are its first deeds.
-        ensures done { (n : ℕ) (began : Began) (calls : List Call) → Serves (IsAt C.held M.marked) n began server calls
-            → HasDone (IsAt C.held M.marked) n began (users_of result) (server_of result) (called calls []) }
+        ensures done { (n : ℕ) (began : Began) (calls : List Call) → Serves T.keeps T.is_at n began server calls
+            → HasDone T.keeps T.is_at n began (users_of result) (server_of result) (called calls []) }
     {
         Clients {
             server,
@@ -92,7 +90,7 @@ impl<C: Chains + Drop, M: Marks + Drop, D: Disk + Drop> Clients<C, M, D> {
         self.server.log_len() > self.due
     }
 
-    pub(crate) fn server(&self) -> &Server<C, M, D>
+    pub(crate) fn server(&self) -> &Server<T, D>
         ensures { result.now ≡ server_of self.now }
     {
         &self.server
@@ -100,9 +98,9 @@ impl<C: Chains + Drop, M: Marks + Drop, D: Disk + Drop> Clients<C, M, D> {
 
     /// Aborts each session that has a transaction, and waits until this is on the disk. Returns whether no session has one then.
     pub(crate) fn abort_open(&mut self, alloc: Global) -> Result<bool, LogFault>
-        ensures aborts { HasAbortedOpen (IsAt C.held M.marked) (server_of self.old) (server_of self.new) }
+        ensures aborts { HasAbortedOpen T.keeps T.is_at (server_of self.old) (server_of self.new) }
         ensures settled { OnOk result (is_settled (server_of self.new) ≡ true) }
-        ensures idle { IfOk result (λ all. IsTrue all → (c : Course) → IsAt C.held M.marked (store_of (server_of self.new)) c
+        ensures idle { IfOk result (λ all. IsTrue all → (c : Course) → T.is_at (store_of (server_of self.new)) c
             → (s : Bytes) → txn_in s c ≡ None) }
         ensures users { users_of self.new ≡ users_of self.old }
         ensures fault { IfErr result (λ fault. is_full fault ≡ false → has_failed (server_of self.new) ≡ true) }
@@ -111,12 +109,12 @@ impl<C: Chains + Drop, M: Marks + Drop, D: Disk + Drop> Clients<C, M, D> {
     }
 
     /// Begins the next segment.
-    pub(crate) fn begin(&mut self, next: Next<C, M, D>)
+    pub(crate) fn begin(&mut self, next: Next<T, D>)
         requires { is_settled (server_of self.old) ≡ true }
         ensures serves { (n number : ℕ) (began : Began) (lines : List Bytes) (calls : List Call)
-            → Serves (IsAt C.held M.marked) n began (server_of self.old) calls
-            → IsReplayed (IsAt C.held M.marked) number lines next.store → HasAll next.log lines
-            → Serves (IsAt C.held M.marked) number (record { lines = lines; before = calls }) (server_of self.new) calls }
+            → Serves T.keeps T.is_at n began (server_of self.old) calls
+            → IsReplayed T.is_at number lines next.store → HasAll next.log lines
+            → Serves T.keeps T.is_at number (record { lines = lines; before = calls }) (server_of self.new) calls }
         ensures users { users_of self.new ≡ users_of self.old }
         ensures due { due_of self.new ≡ due_len self.old.most next.loaded }
     {
@@ -172,7 +170,7 @@ impl<C: Chains + Drop, M: Marks + Drop, D: Disk + Drop> Clients<C, M, D> {
         events: &Events,
         room: &mut [u8],
     ) -> Result<(), LogFault>
-        ensures on { GoOn (IsAt C.held M.marked) self.old self.new }
+        ensures on { GoOn T.keeps T.is_at self.old self.new }
         ensures settled { OnOk result (is_settled (server_of self.new) ≡ true) }
         ensures failed { OnErr result (has_failed (server_of self.new) ≡ true) }
     {
@@ -186,7 +184,7 @@ impl<C: Chains + Drop, M: Marks + Drop, D: Disk + Drop> Clients<C, M, D> {
     }
 
     fn go_on(&mut self, alloc: Global, room: &mut [u8]) -> Result<(), LogFault>
-        ensures on { GoOn (IsAt C.held M.marked) self.old self.new }
+        ensures on { GoOn T.keeps T.is_at self.old self.new }
         ensures failed { OnErr result (has_failed (server_of self.new) ≡ true) }
     {
         if !self.peers.is_busy() {
@@ -199,7 +197,7 @@ impl<C: Chains + Drop, M: Marks + Drop, D: Disk + Drop> Clients<C, M, D> {
     }
 
     fn take_all(&mut self, alloc: Global, events: &Events, room: &mut [u8]) -> Result<(), LogFault>
-        ensures on { GoOn (IsAt C.held M.marked) self.old self.new }
+        ensures on { GoOn T.keeps T.is_at self.old self.new }
         ensures failed { OnErr result (has_failed (server_of self.new) ≡ true) }
     {
         for event in events.iter() {
@@ -209,7 +207,7 @@ impl<C: Chains + Drop, M: Marks + Drop, D: Disk + Drop> Clients<C, M, D> {
     }
 
     fn take(&mut self, alloc: Global, event: &Event, room: &mut [u8]) -> Result<(), LogFault>
-        ensures on { GoOn (IsAt C.held M.marked) self.old self.new }
+        ensures on { GoOn T.keeps T.is_at self.old self.new }
         ensures failed { OnErr result (has_failed (server_of self.new) ≡ true) }
     {
         match self.peers.note(event) {
@@ -220,7 +218,7 @@ impl<C: Chains + Drop, M: Marks + Drop, D: Disk + Drop> Clients<C, M, D> {
 
     /// Reads from the connection, and carries out lines.
     fn take_at(&mut self, alloc: Global, index: usize, room: &mut [u8]) -> Result<(), LogFault>
-        ensures on { GoOn (IsAt C.held M.marked) self.old self.new }
+        ensures on { GoOn T.keeps T.is_at self.old self.new }
         ensures failed { OnErr result (has_failed (server_of self.new) ≡ true) }
     {
         let Some(token) = self.peers.token_at(index) else {
@@ -255,7 +253,7 @@ impl<C: Chains + Drop, M: Marks + Drop, D: Disk + Drop> Clients<C, M, D> {
 
     /// Writes the replies to the connections that have a turn.
     fn reply_all(&mut self)
-        ensures on { GoOn (IsAt C.held M.marked) self.old self.new }
+        ensures on { GoOn T.keeps T.is_at self.old self.new }
         ensures settled { is_settled (server_of self.new) ≡ is_settled (server_of self.old) }
     {
         for index in 0..self.peers.len() {
@@ -264,7 +262,7 @@ impl<C: Chains + Drop, M: Marks + Drop, D: Disk + Drop> Clients<C, M, D> {
     }
 
     fn reply_at(&mut self, index: usize)
-        ensures on { GoOn (IsAt C.held M.marked) self.old self.new }
+        ensures on { GoOn T.keeps T.is_at self.old self.new }
         ensures settled { is_settled (server_of self.new) ≡ is_settled (server_of self.old) }
     {
         let Some(token) = self.peers.token_at(index) else {
@@ -286,7 +284,7 @@ impl<C: Chains + Drop, M: Marks + Drop, D: Disk + Drop> Clients<C, M, D> {
 
     /// Ends the turns, and removes the connections that are closed, once their sessions are aborted.
     pub(crate) fn end_all(&mut self, alloc: Global) -> Result<(), LogFault>
-        ensures on { GoOn (IsAt C.held M.marked) self.old self.new }
+        ensures on { GoOn T.keeps T.is_at self.old self.new }
         ensures failed { OnErr result (has_failed (server_of self.new) ≡ true) }
     {
         self.peers.begin_round();
@@ -298,7 +296,7 @@ impl<C: Chains + Drop, M: Marks + Drop, D: Disk + Drop> Clients<C, M, D> {
     }
 
     fn end_at(&mut self, alloc: Global, index: usize) -> Result<(), LogFault>
-        ensures on { GoOn (IsAt C.held M.marked) self.old self.new }
+        ensures on { GoOn T.keeps T.is_at self.old self.new }
         ensures failed { OnErr result (has_failed (server_of self.new) ≡ true) }
     {
         let Some(token) = self.peers.token_at(index) else {
@@ -320,7 +318,7 @@ impl<C: Chains + Drop, M: Marks + Drop, D: Disk + Drop> Clients<C, M, D> {
     /// Removes a connection that is closed, once its sessions are aborted.
     fn remove(&mut self, alloc: Global, token: u64, index: usize) -> Result<(), LogFault>
         requires { is_some (buffers_of (hub_of (server_of self.old)) token) ≡ false }
-        ensures on { GoOn (IsAt C.held M.marked) self.old self.new }
+        ensures on { GoOn T.keeps T.is_at self.old self.new }
         ensures failed { OnErr result (has_failed (server_of self.new) ≡ true) }
     {
         aborts_are_deeds();
@@ -338,7 +336,7 @@ impl<C: Chains + Drop, M: Marks + Drop, D: Disk + Drop> Clients<C, M, D> {
 
     /// Writes to the connections what they take at once.
     pub(crate) fn write_all(&mut self)
-        ensures on { GoOn (IsAt C.held M.marked) self.old self.new }
+        ensures on { GoOn T.keeps T.is_at self.old self.new }
         ensures stopped { is_stopped (hub_of (server_of self.new)) ≡ is_stopped (hub_of (server_of self.old)) }
         ensures settled { is_settled (server_of self.new) ≡ is_settled (server_of self.old) }
     {
@@ -348,7 +346,7 @@ impl<C: Chains + Drop, M: Marks + Drop, D: Disk + Drop> Clients<C, M, D> {
     }
 
     fn write_at(&mut self, index: usize)
-        ensures on { GoOn (IsAt C.held M.marked) self.old self.new }
+        ensures on { GoOn T.keeps T.is_at self.old self.new }
         ensures stopped { is_stopped (hub_of (server_of self.new)) ≡ is_stopped (hub_of (server_of self.old)) }
         ensures settled { is_settled (server_of self.new) ≡ is_settled (server_of self.old) }
     {
@@ -364,7 +362,7 @@ impl<C: Chains + Drop, M: Marks + Drop, D: Disk + Drop> Clients<C, M, D> {
 
     /// Accepts the connections that wait, as far as there is room.
     pub(crate) fn accept(&mut self, alloc: Global, listener: &UnixListener, registry: &Registry)
-        ensures { GoOn (IsAt C.held M.marked) self.old self.new }
+        ensures { GoOn T.keeps T.is_at self.old self.new }
     {
         self.peers.begin_accepting();
         for _ in 0..MOST_CLIENTS {
@@ -377,7 +375,7 @@ impl<C: Chains + Drop, M: Marks + Drop, D: Disk + Drop> Clients<C, M, D> {
 
     /// Adds a connection, or closes it if memory runs out.
     fn add(&mut self, alloc: Global, stream: UnixStream, registry: &Registry)
-        ensures { GoOn (IsAt C.held M.marked) self.old self.new }
+        ensures { GoOn T.keeps T.is_at self.old self.new }
     {
         calls_are_deeds();
         let Ok(token) = self.server.opened(alloc) else {

@@ -2,7 +2,6 @@
 
 ghost use Rattle.std.specs.Prelude.{◌≡◌, ℕ, [], ◌∷◌, ◌++◌, Some, false, true, is_some, IfErr};
 ghost use Rattle.ssi_store.specs.Meaning.Courses.{Abort};
-ghost use Rattle.ssi_store.specs.Mirror.Stores.{IsAt};
 ghost use Rattle.ssi_line.specs.Meaning.Spelling.{command_text};
 ghost use Rattle.ssi_durable.specs.Clauses.Journals.{is_full};
 ghost use Rattle.ssi_durable.specs.Mirror.Servers.{has_failed};
@@ -15,22 +14,21 @@ use crate::turns::hand_on;
 use sqlite_disk::Disk;
 use ssi_cli::{Users, abort_line};
 use ssi_durable::Server;
+use ssi_line::ProtocolStore;
 use ssi_log::LogFault;
-use ssi_reads::Marks;
 use ssi_store::Session;
-use ssi_versions::Chains;
 use std::alloc::Global;
 
 /// Aborts the sessions whose last command the connection sent, where that is wanted. Returns whether all are aborted: some
 /// are left if memory runs out. `Full` if there is no room in the log for the next abort, and the file can't grow: then some
 /// are left, too. After any other fault the log has failed.
-pub(crate) fn abort_all<C: Chains + Drop, M: Marks + Drop, D: Disk + Drop>(
+pub(crate) fn abort_all<T: ProtocolStore + Drop, D: Disk + Drop>(
     alloc: Global,
     token: u64,
     users: &mut Option<Users>,
-    server: &mut Server<C, M, D>,
+    server: &mut Server<T, D>,
 ) -> Result<bool, LogFault>
-    ensures aborts { HasAborted (IsAt C.held M.marked) (HasUsed users.old token) server.old server.new }
+    ensures aborts { HasAborted T.keeps T.is_at (HasUsed users.old token) server.old server.new }
     ensures forgets { HasForgotten users.old users.new }
     ensures table { is_some users.new ≡ is_some users.old }
     ensures fault { IfErr result (λ fault. is_full fault ≡ false → has_failed server.new ≡ true) }
@@ -42,13 +40,13 @@ pub(crate) fn abort_all<C: Chains + Drop, M: Marks + Drop, D: Disk + Drop>(
 }
 
 /// Aborts the sessions whose last command the connection sent, as [`abort_all`] does.
-pub(crate) fn abort_each<C: Chains + Drop, M: Marks + Drop, D: Disk + Drop>(
+pub(crate) fn abort_each<T: ProtocolStore + Drop, D: Disk + Drop>(
     alloc: Global,
     token: u64,
     users: &mut Users,
-    server: &mut Server<C, M, D>,
+    server: &mut Server<T, D>,
 ) -> Result<bool, LogFault>
-    ensures aborts { HasAborted (IsAt C.held M.marked) (λ s. last_in users.old s ≡ Some token) server.old server.new }
+    ensures aborts { HasAborted T.keeps T.is_at (λ s. last_in users.old s ≡ Some token) server.old server.new }
     ensures forgets { HasForgotten (Some users.old) (Some users.new) }
     ensures fault { IfErr result (λ fault. is_full fault ≡ false → has_failed server.new ≡ true) }
 {
@@ -67,12 +65,12 @@ pub(crate) fn abort_each<C: Chains + Drop, M: Marks + Drop, D: Disk + Drop>(
 
 /// Carries out `abort` of the session, as the line of a connection of its own. Returns whether it did: it didn't if memory
 /// runs out.
-pub(crate) fn abort<C: Chains + Drop, M: Marks + Drop, D: Disk + Drop>(
+pub(crate) fn abort<T: ProtocolStore + Drop, D: Disk + Drop>(
     alloc: Global,
     session: Session,
-    server: &mut Server<C, M, D>,
+    server: &mut Server<T, D>,
 ) -> Result<bool, LogFault>
-    ensures aborted { Makes (IsAt C.held M.marked) server.old server.new (λ calls made. HasTried session result calls made) }
+    ensures aborted { Makes T.keeps T.is_at server.old server.new (λ calls made. HasTried session result calls made) }
     ensures fault { IfErr result (λ fault. is_full fault ≡ false → has_failed server.new ≡ true) }
 {
     let Ok(line) = abort_line(alloc, &session) else {
@@ -82,14 +80,14 @@ pub(crate) fn abort<C: Chains + Drop, M: Marks + Drop, D: Disk + Drop>(
 }
 
 /// Carries out this line, which is `abort` of the session, as [`abort`] does.
-fn abort_by<C: Chains + Drop, M: Marks + Drop, D: Disk + Drop>(
+fn abort_by<T: ProtocolStore + Drop, D: Disk + Drop>(
     alloc: Global,
     session: Session,
     line: &[u8],
-    server: &mut Server<C, M, D>,
+    server: &mut Server<T, D>,
 ) -> Result<bool, LogFault>
     requires { line.now ≡ command_text (Abort session) ++ (10 ∷ []) }
-    ensures aborted { Makes (IsAt C.held M.marked) server.old server.new (λ calls made. HasTried session result calls made) }
+    ensures aborted { Makes T.keeps T.is_at server.old server.new (λ calls made. HasTried session result calls made) }
     ensures fault { IfErr result (λ fault. is_full fault ≡ false → has_failed server.new ≡ true) }
 {
     let Ok(token) = server.opened(alloc) else {

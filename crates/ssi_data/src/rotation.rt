@@ -2,7 +2,6 @@
 
 ghost use Rattle.std.specs.Prelude.{◌≡◌, IsTrue, IfOk};
 ghost use Rattle.ssi_store.specs.Meaning.Courses.{New};
-ghost use Rattle.ssi_store.specs.Mirror.Stores.{IsAt};
 ghost use Rattle.ssi_files.specs.Machinery.Folders.{calls_of};
 ghost use Rattle.ssi_files.specs.Meaning.Premises.{is_kept};
 ghost use Rattle.ssi_data.specs.Clauses.Faults.{may_wait};
@@ -14,10 +13,8 @@ use crate::fault::DataFault;
 use crate::segment::next_segment;
 use sqlite_disk::{Disk, Start, is_no_room};
 use ssi_files::{FileDisk, Folder, SegmentNumber};
+use ssi_line::ProtocolStore;
 use ssi_log::LogFault;
-use ssi_reads::Marks;
-use ssi_store::Store;
-use ssi_versions::Chains;
 
 /// The system's numbers for no more open files: in a process, and at all.
 const NO_DESCRIPTOR: [i32; 2] = [24, 23];
@@ -37,15 +34,15 @@ pub enum Rotation {
 ///
 /// After `Kept` the aborts stand. An error comes if the log of the segment before has failed, or if the folder or the file of
 /// the next segment can't be used or synced. Then the server may not go on.
-pub fn rotate<C: Chains + Drop, M: Marks + Drop, S: Start>(
+pub fn rotate<T: ProtocolStore + Drop, S: Start>(
     rt: &HostRuntime,
     folder: &mut Folder,
     number: SegmentNumber,
-    store: Store<C, M>,
-    clients: &mut Clients<C, M, FileDisk<S>>,
+    store: T,
+    clients: &mut Clients<T, FileDisk<S>>,
 ) -> Result<Rotation, DataFault>
-    ensures rotated { IsAt C.held M.marked store (New 1)
-        → IfOk result (HasRotated (IsAt C.held M.marked) number (server_of clients.old) (server_of clients.new)) }
+    ensures rotated { T.is_at store (New 1)
+        → IfOk result (HasRotated T.keeps T.is_at number (server_of clients.old) (server_of clients.new)) }
     ensures published { IfOk result (λ r. r ≡ Rotation.Begun → IsTrue (is_kept number (calls_of folder.new))) }
     ensures users { users_of clients.new ≡ users_of clients.old }
 {
@@ -70,8 +67,8 @@ pub fn rotate<C: Chains + Drop, M: Marks + Drop, S: Start>(
     }
 }
 
-fn put_off<C: Chains + Drop, M: Marks + Drop, D: Disk + Drop>(
-    clients: &mut Clients<C, M, D>,
+fn put_off<T: ProtocolStore + Drop, D: Disk + Drop>(
+    clients: &mut Clients<T, D>,
     fault: DataFault,
 ) -> Rotation
     ensures result { result ≡ Rotation.Kept fault }

@@ -3,7 +3,6 @@
 ghost use Rattle.std.specs.Prelude.{◌≡◌, IfOk, OnOk};
 ghost use Rattle.ssi_store.specs.Meaning.Contents.{contents_after};
 ghost use Rattle.ssi_store.specs.Meaning.Courses.{Course, New};
-ghost use Rattle.ssi_store.specs.Mirror.Stores.{IsAt};
 ghost use Rattle.ssi_durable.specs.Clauses.Journals.{HasAll};
 ghost use Rattle.ssi_durable.specs.Clauses.Recovery.{IsReplayed};
 ghost use Rattle.ssi_durable.specs.Mirror.Servers.{store_of};
@@ -16,12 +15,10 @@ use crate::fault::DataFault;
 use sqlite_disk::Disk;
 use ssi_durable::{Server, load};
 use ssi_files::{FileDisk, Folder, SegmentNumber, Start};
+use ssi_line::ProtocolStore;
 use ssi_loads::first_lines;
 use ssi_loads::laws::{first_lines_are_clean, first_lines_are_plain};
 use ssi_log::Log;
-use ssi_reads::Marks;
-use ssi_store::Store;
-use ssi_versions::Chains;
 use std::alloc::Global;
 use std::collections::BTreeSet;
 
@@ -97,9 +94,9 @@ fn write_first<D: Disk + Drop>(alloc: Global, disk: D, number: u32) -> Result<()
 
 /// What a server goes on with in the next segment.
 #[derive(Drop)]
-pub(crate) struct Next<C: Chains + Drop, M: Marks + Drop, D: Disk + Drop> {
+pub(crate) struct Next<T: Drop, D: Disk + Drop> {
     /// It has carried out the first lines of the segment.
-    pub store: Store<C, M>,
+    pub store: T,
     /// The log of the segment, with these lines. All of them are on the disk.
     pub log: Log<D>,
     /// How many bytes they have.
@@ -108,16 +105,16 @@ pub(crate) struct Next<C: Chains + Drop, M: Marks + Drop, D: Disk + Drop> {
 
 /// Makes the file of the next segment, with the contents of the store of this server, and carries out its lines on this store,
 /// which is new. The segment isn't published yet.
-pub(crate) fn next_segment<C: Chains + Drop, M: Marks + Drop, S: Start>(
+pub(crate) fn next_segment<T: ProtocolStore + Drop, S: Start>(
     rt: &HostRuntime,
     folder: &mut Folder,
     number: SegmentNumber,
-    mut store: Store<C, M>,
-    server: &Server<C, M, FileDisk<S>>,
-) -> Result<Next<C, M, FileDisk<S>>, DataFault>
-    ensures { IsAt C.held M.marked store (New 1) → IfOk result (λ next. (c : Course)
-        → IsAt C.held M.marked (store_of server.now) c
-        → IsReplayed (IsAt C.held M.marked) number (first_lines number (contents_after c)) next.store
+    mut store: T,
+    server: &Server<T, FileDisk<S>>,
+) -> Result<Next<T, FileDisk<S>>, DataFault>
+    ensures { T.is_at store (New 1) → IfOk result (λ next. (c : Course)
+        → T.is_at (store_of server.now) c
+        → IsReplayed T.is_at number (first_lines number (contents_after c)) next.store
         × HasAll next.log (first_lines number (contents_after c))) }
 {
     first_lines_are_plain();

@@ -1,6 +1,5 @@
 //! The service of all connections of a socket.
 
-ghost use Rattle.ssi_store.specs.Mirror.Stores.{IsAt};
 ghost use Rattle.ssi_data.specs.Clauses.Halts.{HasHalted};
 ghost use Rattle.ssi_data.specs.Mirror.{GoOn, server_of};
 
@@ -10,8 +9,7 @@ use mio::net::UnixListener;
 use mio::{Events, Poll};
 use sqlite_disk::Disk;
 use ssi_cli::ROOM;
-use ssi_reads::Marks;
-use ssi_versions::Chains;
+use ssi_line::ProtocolStore;
 use std::alloc::Global;
 
 /// Accepts connections and carries out the lines of all of them, one line at a time, in the order in which connections are
@@ -21,14 +19,14 @@ use std::alloc::Global;
 /// Goes on until `stop` is carried out, the log or the socket fails, the file of the log can't grow, or the log is so long that
 /// the next segment is to be begun. After `Full` call it again: meanwhile nothing is lost, and no line is carried out but
 /// `stop`. After `Rotate` call it again, too, once [`rotate`](crate::rotate) has returned. After the others it may not go on.
-pub fn serve<C: Chains + Drop, M: Marks + Drop, D: Disk + Drop>(
+pub fn serve<T: ProtocolStore + Drop, D: Disk + Drop>(
     alloc: Global,
     poll: &mut Poll,
     listener: &UnixListener,
     events: &mut Events,
-    clients: &mut Clients<C, M, D>,
+    clients: &mut Clients<T, D>,
 ) -> Halt
-    ensures on { GoOn (IsAt C.held M.marked) clients.old clients.new }
+    ensures on { GoOn T.keeps T.is_at clients.old clients.new }
     ensures halted { HasHalted result (server_of clients.new) }
 {
     let mut room = [0u8; ROOM];

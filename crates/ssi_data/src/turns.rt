@@ -3,7 +3,6 @@
 ghost use Rattle.std.specs.Prelude.{◌≡◌, ◌≢◌, ◌<◌, ◌⊎◌, ℕ, List, [], ◌∷◌, ◌++◌, length, true, false, Some, None, is_some, OnOk, IfErr, IsErr, MatchResult};
 ghost use Rattle.std.specs.Io.KnownBytes.{IsAtEnd};
 ghost use Rattle.adya_keys.specs.Meaning.Keys.{Bytes};
-ghost use Rattle.ssi_store.specs.Mirror.Stores.{IsAt};
 ghost use Rattle.ssi_hub.specs.Clauses.Calls.{Call, Received, Closed, with_call, lines_of};
 ghost use Rattle.ssi_hub.specs.Mirror.{buffers_of, is_stopped};
 ghost use Rattle.ssi_durable.specs.Clauses.Journals.{is_full};
@@ -19,9 +18,8 @@ ghost use Rattle.ssi_data.specs.Mirror.{to_send};
 use sqlite_disk::Disk;
 use ssi_cli::{Closing, Input, Peer, Sent, Stream, Users};
 use ssi_durable::Server;
+use ssi_line::ProtocolStore;
 use ssi_log::LogFault;
-use ssi_reads::Marks;
-use ssi_versions::Chains;
 use std::alloc::Global;
 
 /// The most lines of a connection that are carried out before the others have their turn.
@@ -29,16 +27,16 @@ const MOST_LINES: usize = 256;
 
 /// Reads from the client once, if more may be read, and hands on what came. `Closing::Memory` if memory can't hold it: then the
 /// connection is closed, and what came is dropped.
-pub fn receive<S: Stream, C: Chains + Drop, M: Marks + Drop, D: Disk + Drop>(
+pub fn receive<S: Stream, T: ProtocolStore + Drop, D: Disk + Drop>(
     token: u64,
     peer: &mut Peer<S>,
-    server: &mut Server<C, M, D>,
+    server: &mut Server<T, D>,
     room: &mut [u8],
 ) -> Result<(), Closing>
     // What was read is what the server was given, or was dropped.
-    ensures received { OnOk result (MakesQuietly (IsAt C.held M.marked) server.old server.new (λ _ made.
+    ensures received { OnOk result (MakesQuietly T.keeps T.is_at server.old server.new (λ _ made.
         Exchanged S.remaining S.contents token (stream_of peer.old) (stream_of peer.new) made [])) }
-    ensures dropped { IfErr result (λ why. (why ≡ Closing.Memory) × MakesQuietly (IsAt C.held M.marked) server.old server.new
+    ensures dropped { IfErr result (λ why. (why ≡ Closing.Memory) × MakesQuietly T.keeps T.is_at server.old server.new
         (λ _ made. IsDropped S.remaining S.contents token (stream_of peer.old) (stream_of peer.new) made)) }
     // Something is read if more is to be read and the stream never fails, or it is at its end.
     ensures reads { S.is_steady (stream_of peer.old) ≡ true → may_read peer.old ≡ true
@@ -61,15 +59,15 @@ pub fn receive<S: Stream, C: Chains + Drop, M: Marks + Drop, D: Disk + Drop>(
 }
 
 /// Hands on bytes of a connection. `Closing::Memory` if memory can't hold them: then it is closed.
-pub(crate) fn hand_on<C: Chains + Drop, M: Marks + Drop, D: Disk + Drop>(
+pub(crate) fn hand_on<T: ProtocolStore + Drop, D: Disk + Drop>(
     token: u64,
     bytes: &[u8],
-    server: &mut Server<C, M, D>,
+    server: &mut Server<T, D>,
 ) -> Result<(), Closing>
-    ensures serves { (n : ℕ) (began : Began) (calls : List Call) → Serves (IsAt C.held M.marked) n began server.old calls
+    ensures serves { (n : ℕ) (began : Began) (calls : List Call) → Serves T.keeps T.is_at n began server.old calls
         → MatchResult result
-        (λ _. Serves (IsAt C.held M.marked) n began server.new (with_call (Received token bytes.now) calls))
-        (λ _. Serves (IsAt C.held M.marked) n began server.new (with_call (Closed token) calls)) }
+        (λ _. Serves T.keeps T.is_at n began server.new (with_call (Received token bytes.now) calls))
+        (λ _. Serves T.keeps T.is_at n began server.new (with_call (Closed token) calls)) }
     ensures memory { IfErr result (λ why. why ≡ Closing.Memory) }
 {
     match server.received(token, bytes) {
@@ -86,14 +84,14 @@ pub(crate) fn hand_on<C: Chains + Drop, M: Marks + Drop, D: Disk + Drop>(
 ///
 /// `Full` if there is no room in the log for the next line, and the file can't grow: the line waits. After any other fault the
 /// log has failed.
-pub fn carry_out<C: Chains + Drop, M: Marks + Drop, D: Disk + Drop>(
+pub fn carry_out<T: ProtocolStore + Drop, D: Disk + Drop>(
     alloc: Global,
     token: u64,
     users: &mut Option<Users>,
-    server: &mut Server<C, M, D>,
+    server: &mut Server<T, D>,
 ) -> Result<(), LogFault>
-    ensures carried { Makes (IsAt C.held M.marked) server.old server.new (λ calls made.
-        HasCarriedOut token users.old users.new calls made
+    ensures carried { Makes T.keeps T.is_at server.old server.new (λ calls made.
+        HasCarriedOut T.keeps token users.old users.new calls made
         × (MayRun (is_stopped (hub_of server.old)) (buffers_of (hub_of server.old) token) → OnOk result (0 < length made))) }
     ensures table { is_some users.new ≡ is_some users.old }
     ensures fault { IfErr result (λ fault. is_full fault ≡ false → has_failed server.new ≡ true) }
@@ -108,15 +106,15 @@ pub fn carry_out<C: Chains + Drop, M: Marks + Drop, D: Disk + Drop>(
 }
 
 /// Carries out the first line that waits, which may be carried out.
-fn carry_out_line<C: Chains + Drop, M: Marks + Drop, D: Disk + Drop>(
+fn carry_out_line<T: ProtocolStore + Drop, D: Disk + Drop>(
     alloc: Global,
     token: u64,
     users: &mut Option<Users>,
-    server: &mut Server<C, M, D>,
+    server: &mut Server<T, D>,
 ) -> Result<(), LogFault>
     requires { MayRun (is_stopped (hub_of server.old)) (buffers_of (hub_of server.old) token) }
-    ensures carried { Makes (IsAt C.held M.marked) server.old server.new (λ calls made.
-        HasCarriedOut token users.old users.new calls made × OnOk result (0 < length made)) }
+    ensures carried { Makes T.keeps T.is_at server.old server.new (λ calls made.
+        HasCarriedOut T.keeps token users.old users.new calls made × OnOk result (0 < length made)) }
     ensures table { is_some users.new ≡ is_some users.old }
     ensures fault { IfErr result (λ fault. is_full fault ≡ false → has_failed server.new ≡ true) }
 {
@@ -126,14 +124,14 @@ fn carry_out_line<C: Chains + Drop, M: Marks + Drop, D: Disk + Drop>(
     }
 }
 
-fn carry_out_plain<C: Chains + Drop, M: Marks + Drop, D: Disk + Drop>(
+fn carry_out_plain<T: ProtocolStore + Drop, D: Disk + Drop>(
     alloc: Global,
     token: u64,
-    server: &mut Server<C, M, D>,
+    server: &mut Server<T, D>,
 ) -> Result<(), LogFault>
     requires { MayRun (is_stopped (hub_of server.old)) (buffers_of (hub_of server.old) token) }
-    ensures carried { Makes (IsAt C.held M.marked) server.old server.new (λ calls made.
-        HasCarriedOut token None None calls made × OnOk result (0 < length made)) }
+    ensures carried { Makes T.keeps T.is_at server.old server.new (λ calls made.
+        HasCarriedOut T.keeps token None None calls made × OnOk result (0 < length made)) }
     ensures fault { IfErr result (λ fault. is_full fault ≡ false → has_failed server.new ≡ true) }
 {
     match server.step(alloc, token) {
@@ -143,15 +141,15 @@ fn carry_out_plain<C: Chains + Drop, M: Marks + Drop, D: Disk + Drop>(
 }
 
 /// Carries out the line as well, and notes that the connection sent it.
-fn carry_out_noted<C: Chains + Drop, M: Marks + Drop, D: Disk + Drop>(
+fn carry_out_noted<T: ProtocolStore + Drop, D: Disk + Drop>(
     alloc: Global,
     token: u64,
     users: &mut Users,
-    server: &mut Server<C, M, D>,
+    server: &mut Server<T, D>,
 ) -> Result<(), LogFault>
     requires { MayRun (is_stopped (hub_of server.old)) (buffers_of (hub_of server.old) token) }
-    ensures carried { Makes (IsAt C.held M.marked) server.old server.new (λ calls made.
-        HasCarriedOut token (Some users.old) (Some users.new) calls made × OnOk result (0 < length made)) }
+    ensures carried { Makes T.keeps T.is_at server.old server.new (λ calls made.
+        HasCarriedOut T.keeps token (Some users.old) (Some users.new) calls made × OnOk result (0 < length made)) }
     ensures fault { IfErr result (λ fault. is_full fault ≡ false → has_failed server.new ≡ true) }
 {
     let Some(line) = server.next_line(token) else {
@@ -174,14 +172,14 @@ fn carry_out_noted<C: Chains + Drop, M: Marks + Drop, D: Disk + Drop>(
 /// Writes the replies to the client, as far as it takes them, once all lines that count are on the disk. The connection is
 /// closed if it has ended and there is nothing more to do for it: that is `Closing::Ended`. `Closing::Broken` if the client
 /// takes no more: then it is closed, too. If it is open, it is due again while there is more to do for it at once.
-pub fn reply<S: Stream, C: Chains + Drop, M: Marks + Drop, D: Disk + Drop>(
+pub fn reply<S: Stream, T: ProtocolStore + Drop, D: Disk + Drop>(
     token: u64,
     peer: &mut Peer<S>,
-    server: &mut Server<C, M, D>,
+    server: &mut Server<T, D>,
 ) -> Result<(), Closing>
     // What was written is what the server was told.
-    ensures replied { MakesQuietly (IsAt C.held M.marked) server.old server.new (λ calls made.
-        HasReplied S.remaining S.contents token (stream_of peer.old) (stream_of peer.new) result calls made) }
+    ensures replied { MakesQuietly T.keeps T.is_at server.old server.new (λ calls made.
+        HasReplied T.keeps S.remaining S.contents token (stream_of peer.old) (stream_of peer.new) result calls made) }
     // It ends at the end of its stream, or after a read that failed.
     ensures ends { IfErr result (λ why. why ≡ Closing.Ended → input_of peer.new ≢ Input.Open) }
     ensures broken { S.is_steady (stream_of peer.old) ≡ true → IfErr result (λ why. why ≢ Closing.Broken) }
@@ -201,15 +199,15 @@ pub fn reply<S: Stream, C: Chains + Drop, M: Marks + Drop, D: Disk + Drop>(
 
 /// Closes the connection if it has ended and there is nothing more to do for it: that is `Closing::Ended`. Otherwise notes
 /// whether it has more to do at once.
-fn end_if_done<S: Stream, C: Chains + Drop, M: Marks + Drop, D: Disk + Drop>(
+fn end_if_done<S: Stream, T: ProtocolStore + Drop, D: Disk + Drop>(
     token: u64,
     peer: &mut Peer<S>,
-    server: &mut Server<C, M, D>,
+    server: &mut Server<T, D>,
 ) -> Result<(), Closing>
     ensures open { OnOk result (server.new ≡ server.old) }
     ensures finished { IfErr result (λ why. (why ≡ Closing.Ended) × (input_of peer.new ≢ Input.Open)
-        × MakesQuietly (IsAt C.held M.marked) server.old server.new
-        (λ calls made. (made ≡ Closed token ∷ []) × IsFinished token calls)) }
+        × MakesQuietly T.keeps T.is_at server.old server.new
+        (λ calls made. (made ≡ Closed token ∷ []) × IsFinished T.keeps token calls)) }
     ensures stopped { is_stopped (hub_of server.new) ≡ is_stopped (hub_of server.old) }
     ensures settled { is_settled server.new ≡ is_settled server.old }
     ensures stream { stream_of peer.new ≡ stream_of peer.old }
@@ -230,15 +228,15 @@ fn end_if_done<S: Stream, C: Chains + Drop, M: Marks + Drop, D: Disk + Drop>(
 
 /// Writes to the client until all is written or there is no room. `Closing::Broken` if the client takes no more: then the
 /// connection is closed.
-pub fn send<S: Stream, C: Chains + Drop, M: Marks + Drop, D: Disk + Drop>(
+pub fn send<S: Stream, T: ProtocolStore + Drop, D: Disk + Drop>(
     token: u64,
     peer: &mut Peer<S>,
-    server: &mut Server<C, M, D>,
+    server: &mut Server<T, D>,
 ) -> Result<(), Closing>
-    ensures written { OnOk result (MakesQuietly (IsAt C.held M.marked) server.old server.new (λ _ made.
+    ensures written { OnOk result (MakesQuietly T.keeps T.is_at server.old server.new (λ _ made.
         Exchanged S.remaining S.contents token (stream_of peer.old) (stream_of peer.new) made [])) }
-    ensures broken { IfErr result (λ why. (why ≡ Closing.Broken) × MakesQuietly (IsAt C.held M.marked) server.old server.new
-        (λ calls made. (earlier : List Call) × (made ≡ Closed token ∷ earlier) × HasUnsent token (earlier ++ calls)
+    ensures broken { IfErr result (λ why. (why ≡ Closing.Broken) × MakesQuietly T.keeps T.is_at server.old server.new
+        (λ calls made. (earlier : List Call) × (made ≡ Closed token ∷ earlier) × HasUnsent T.keeps token (earlier ++ calls)
         × Exchanged S.remaining S.contents token (stream_of peer.old) (stream_of peer.new) earlier [])) }
     ensures steady { IsErr result → S.is_steady (stream_of peer.old) ≡ true → ⊥ }
     ensures all { OnOk result (S.is_steady (stream_of peer.old) ≡ true → to_send server.new token ≡ []) }
@@ -268,10 +266,10 @@ pub fn send<S: Stream, C: Chains + Drop, M: Marks + Drop, D: Disk + Drop>(
 }
 
 /// Returns whether there is more to do at once: whether a line may be carried out, or more is to be read that may be there.
-fn has_more<S: Stream, C: Chains + Drop, M: Marks + Drop, D: Disk + Drop>(
+fn has_more<S: Stream, T: ProtocolStore + Drop, D: Disk + Drop>(
     token: u64,
     peer: &Peer<S>,
-    server: &Server<C, M, D>,
+    server: &Server<T, D>,
 ) -> bool
     ensures { result ≡ false
         → IsIdle (may_read peer.now) (is_stopped (hub_of server.now)) (buffers_of (hub_of server.now) token) }
@@ -280,10 +278,10 @@ fn has_more<S: Stream, C: Chains + Drop, M: Marks + Drop, D: Disk + Drop>(
 }
 
 /// Returns whether the connection is open, has ended, and has got all its replies.
-fn is_done<S: Stream, C: Chains + Drop, M: Marks + Drop, D: Disk + Drop>(
+fn is_done<S: Stream, T: ProtocolStore + Drop, D: Disk + Drop>(
     token: u64,
     peer: &Peer<S>,
-    server: &Server<C, M, D>,
+    server: &Server<T, D>,
 ) -> bool
     ensures done { result ≡ true → (input_of peer.now ≢ Input.Open) × HasAllSent (buffers_of (hub_of server.now) token) }
     ensures open { result ≡ false → input_of peer.now ≢ Input.Open → NoneUnsent (buffers_of (hub_of server.now) token)

@@ -6,11 +6,8 @@ use Rattle.std.proofs.lemmas.Option.{same_Some, none-some}
 use Rattle.std.proofs.lemmas.List.{append-nil, append_assoc}
 use Rattle.sqlite_disk.specs.declared.Disk.{Ghosts}
 use Rattle.adya_keys.specs.Meaning.Keys.{Bytes}
-use Rattle.ssi_versions.specs.declared.chains.Chains.{Ghosts as HeldBy}
-use Rattle.ssi_reads.specs.declared.marks.Marks.{Ghosts as MarkedBy}
 use Rattle.ssi_store.specs.Meaning.Courses.{Course}
-use Rattle.ssi_store.specs.declared.store.Store.{Store}
-use Rattle.ssi_line.specs.Meaning.Steps.{Step, IsStep, steps_text}
+use Rattle.ssi_line.specs.Meaning.Steps.{Step, IsStepOf, steps_text}
 use Rattle.ssi_line.specs.Clauses.Counting.{counts, logged_course}
 use Rattle.ssi_line.specs.Clauses.Ends.{WentOnLogged}
 use Rattle.ssi_line.specs.Clauses.Answers.{kept}
@@ -206,14 +203,14 @@ module _ {D : Type 0} {disk : Ghosts D} where
 
 -- ---- servers
 
-module _ {C M D : Type 0} {g : HeldBy C} {h : MarkedBy M} {disk : Ghosts D} where
+module _ {S D : Type 0} {disk : Ghosts D} where
   -- calls that add these lines
-  serves_on : (is_at : Store C M g h → Course → Type 0) (n : ℕ) (began : Began) (old new : Server C M D g h disk)
+  serves_on : (dumps : Bool) (is_at : S → Course → Type 0) (n : ℕ) (began : Began) (old new : Server S D disk)
       (calls now made : List Call) (more : List Bytes) → now ≡ made ++ calls → Adds made more
-      → (was : Serves is_at n began old calls) → Stands new.hub now → HasGoneOn is_at n began.lines new.store (made ++ was.since)
+      → (was : Serves dumps is_at n began old calls) → Stands dumps new.hub now → HasGoneOn is_at n began.lines new.store (made ++ was.since)
       → Keeps new.journal (began.lines ++ released was.since) (began.lines ++ (logged was.since ++ more))
-      → Serves is_at n began new now
-  serves_on is_at n began old new calls now made more is adds was stands gone keeps = record {
+      → Serves dumps is_at n began new now
+  serves_on dumps is_at n began old new calls now made more is adds was stands gone keeps = record {
     since = made ++ was.since;
     parts = is ∙ ap (λ (cs : List Call). made ++ cs) was.parts ∙ sym (append_assoc made was.since began.before);
     stands = stands;
@@ -226,32 +223,32 @@ module _ {C M D : Type 0} {g : HeldBy C} {h : MarkedBy M} {disk : Ghosts D} wher
   }
 
   -- a call that adds nothing
-  pub quiet : (is_at : Store C M g h → Course → Type 0) (n : ℕ) (began : Began) (old new : Server C M D g h disk)
-      (calls now : List Call) → IsQuiet calls now → (was : Serves is_at n began old calls) → Stands new.hub now
+  pub quiet : (dumps : Bool) (is_at : S → Course → Type 0) (n : ℕ) (began : Began) (old new : Server S D disk)
+      (calls now : List Call) → IsQuiet calls now → (was : Serves dumps is_at n began old calls) → Stands dumps new.hub now
       → new.store ≡ old.store → Keeps new.journal (began.lines ++ released was.since) (began.lines ++ logged was.since)
-      → Serves is_at n began new now
-  quiet is_at n began old new calls now is was stands store keeps =
+      → Serves dumps is_at n began new now
+  quiet dumps is_at n began old new calls now is was stands store keeps =
       let gone = was.gone in
-      serves_on is_at n began old new calls now is.made [] is.is is.adds was stands (record {
+      serves_on dumps is_at n began old new calls now is.made [] is.is is.adds was stands (record {
         has_header = gone.has_header;
         start = gone.start;
         replayed = gone.replayed;
         end = gone.end;
         led = is.led was.since gone.start gone.end gone.led;
-        at = subst (λ (s : Store C M g h). is_at s gone.end) (sym store) gone.at;
+        at = subst (λ (s : S). is_at s gone.end) (sym store) gone.at;
       })
       (subst (λ (ls : List Bytes). Keeps new.journal (began.lines ++ released was.since) (began.lines ++ ls))
       (sym (append-nil (logged was.since))) keeps)
 
   -- something was written to a connection, of a server all of whose lines are sure
-  pub written : (is_at : Store C M g h → Course → Type 0) (n : ℕ) (began : Began) (old new : Server C M D g h disk)
-      (calls : List Call) (t : ℕ) (bytes : Bytes) → (was : Serves is_at n began old calls)
-      → Stands new.hub (with_call (Wrote t bytes) calls) → new.store ≡ old.store → new.journal ≡ old.journal
+  pub written : (dumps : Bool) (is_at : S → Course → Type 0) (n : ℕ) (began : Began) (old new : Server S D disk)
+      (calls : List Call) (t : ℕ) (bytes : Bytes) → (was : Serves dumps is_at n began old calls)
+      → Stands dumps new.hub (with_call (Wrote t bytes) calls) → new.store ≡ old.store → new.journal ≡ old.journal
       → Keeps old.journal (began.lines ++ logged was.since) (began.lines ++ logged was.since)
-      → Serves is_at n began new (with_call (Wrote t bytes) calls)
-  written is_at n began old new calls t bytes was stands store journal sure = by_open (is_open t calls) refl bytes stands
+      → Serves dumps is_at n began new (with_call (Wrote t bytes) calls)
+  written dumps is_at n began old new calls t bytes was stands store journal sure = by_open (is_open t calls) refl bytes stands
     where
-      told_all : (u : ℕ) (x : ℕ) (xs : Bytes) → Stands new.hub (Wrote t (x ∷ xs) ∷ calls)
+      told_all : (u : ℕ) (x : ℕ) (xs : Bytes) → Stands dumps new.hub (Wrote t (x ∷ xs) ∷ calls)
           → (unsent : Bytes) × (steps_text (steps_of u calls) ≡ written_to u (Wrote t (x ∷ xs) ∷ calls) ++ unsent)
       told_all u x xs stood =
           let (left, unsent, served, is) = stood.served u in
@@ -264,10 +261,10 @@ module _ {C M D : Type 0} {g : HeldBy C} {h : MarkedBy M} {disk : Ghosts D} wher
         replayed = was.gone.replayed;
         end = was.gone.end;
         led = was.gone.led;
-        at = subst (λ (s : Store C M g h). is_at s was.gone.end) (sym store) was.gone.at;
+        at = subst (λ (s : S). is_at s was.gone.end) (sym store) was.gone.at;
       }
 
-      by_bytes : (bs : Bytes) → Stands new.hub (Wrote t bs ∷ calls) → Serves is_at n began new (Wrote t bs ∷ calls)
+      by_bytes : (bs : Bytes) → Stands dumps new.hub (Wrote t bs ∷ calls) → Serves dumps is_at n began new (Wrote t bs ∷ calls)
       by_bytes [] stood = record {
         since = Wrote t [] ∷ was.since;
         parts = ap (λ (cs : List Call). Wrote t [] ∷ cs) was.parts;
@@ -296,23 +293,23 @@ module _ {C M D : Type 0} {g : HeldBy C} {h : MarkedBy M} {disk : Ghosts D} wher
             (sym journal) sure;
       }
 
-      by_open : (b : Bool) → is_open t calls ≡ b → (bs : Bytes) → Stands new.hub (cond (is_open t calls) (Wrote t bs ∷ calls) calls)
-          → Serves is_at n began new (cond (is_open t calls) (Wrote t bs ∷ calls) calls)
+      by_open : (b : Bool) → is_open t calls ≡ b → (bs : Bytes) → Stands dumps new.hub (cond (is_open t calls) (Wrote t bs ∷ calls) calls)
+          → Serves dumps is_at n began new (cond (is_open t calls) (Wrote t bs ∷ calls) calls)
       by_open true e bs stood =
-          subst (λ (x : Bool). Serves is_at n began new (cond x (Wrote t bs ∷ calls) calls)) (sym e)
-          (by_bytes bs (subst (λ (x : Bool). Stands new.hub (cond x (Wrote t bs ∷ calls) calls)) e stood))
+          subst (λ (x : Bool). Serves dumps is_at n began new (cond x (Wrote t bs ∷ calls) calls)) (sym e)
+          (by_bytes bs (subst (λ (x : Bool). Stands dumps new.hub (cond x (Wrote t bs ∷ calls) calls)) e stood))
       by_open false e bs stood =
-          subst (λ (x : Bool). Serves is_at n began new (cond x (Wrote t bs ∷ calls) calls)) (sym e)
-          (quiet is_at n began old new calls calls (same_is_quiet calls) was
-          (subst (λ (x : Bool). Stands new.hub (cond x (Wrote t bs ∷ calls) calls)) e stood) store
+          subst (λ (x : Bool). Serves dumps is_at n began new (cond x (Wrote t bs ∷ calls) calls)) (sym e)
+          (quiet dumps is_at n began old new calls calls (same_is_quiet calls) was
+          (subst (λ (x : Bool). Stands dumps new.hub (cond x (Wrote t bs ∷ calls) calls)) e stood) store
           (subst (λ (j : Journal D disk). Keeps j (began.lines ++ released was.since) (began.lines ++ logged was.since)) (sym journal)
           was.keeps))
 
   -- a segment that has just begun, with connections that have made these calls
-  pub begins : (is_at : Store C M g h → Course → Type 0) (n : ℕ) (lines : List Bytes) (server : Server C M D g h disk)
-      (calls : List Call) → IsReplayed is_at n lines server.store → Stands server.hub calls → IsTold calls
-      → Keeps server.journal lines lines → Serves is_at n (record { lines = lines; before = calls }) server calls
-  begins is_at n lines server calls was stands told keeps = record {
+  pub begins : (dumps : Bool) (is_at : S → Course → Type 0) (n : ℕ) (lines : List Bytes) (server : Server S D disk)
+      (calls : List Call) → IsReplayed is_at n lines server.store → Stands dumps server.hub calls → IsTold calls
+      → Keeps server.journal lines lines → Serves dumps is_at n (record { lines = lines; before = calls }) server calls
+  begins dumps is_at n lines server calls was stands told keeps = record {
     since = [];
     parts = refl;
     stands = stands;
@@ -329,32 +326,32 @@ module _ {C M D : Type 0} {g : HeldBy C} {h : MarkedBy M} {disk : Ghosts D} wher
   }
 
   -- a server that has just started
-  pub starts : (is_at : Store C M g h → Course → Type 0) (n : ℕ) (lines : List Bytes) (server : Server C M D g h disk)
-      → IsReplayed is_at n lines server.store → Stands server.hub [] → Keeps server.journal lines lines
-      → Serves is_at n (from_start lines) server []
-  starts is_at n lines server was stands keeps =
-      begins is_at n lines server [] was stands (λ t. ([], refl)) keeps
+  pub starts : (dumps : Bool) (is_at : S → Course → Type 0) (n : ℕ) (lines : List Bytes) (server : Server S D disk)
+      → IsReplayed is_at n lines server.store → Stands dumps server.hub [] → Keeps server.journal lines lines
+      → Serves dumps is_at n (from_start lines) server []
+  starts dumps is_at n lines server was stands keeps =
+      begins dumps is_at n lines server [] was stands (λ t. ([], refl)) keeps
 
   -- a line was carried out
-  pub line_served : (is_at : Store C M g h → Course → Type 0) (n : ℕ) (began : Began) (old new : Server C M D g h disk)
-      (calls : List Call) (lost : Bool) (t : ℕ) (line : Bytes) (step : Step) → AreLettered → (was : Serves is_at n began old calls)
-      → IsStep line step → WentOnLogged is_at old.store step new.store
-      → Stands new.hub (with_run lost t (line ∷ []) (step ∷ []) calls)
+  pub line_served : (dumps : Bool) (is_at : S → Course → Type 0) (n : ℕ) (began : Began) (old new : Server S D disk)
+      (calls : List Call) (lost : Bool) (t : ℕ) (line : Bytes) (step : Step) → AreLettered → (was : Serves dumps is_at n began old calls)
+      → IsStepOf dumps line step → WentOnLogged is_at old.store step new.store
+      → Stands dumps new.hub (with_run lost t (line ∷ []) (step ∷ []) calls)
       → all_steps (with_run lost t (line ∷ []) (step ∷ []) calls) ≡ all_steps calls ++ (step ∷ [])
       → Keeps new.journal (began.lines ++ released was.since)
       ((began.lines ++ logged was.since) ++ counted (line ∷ []) (step ∷ []))
-      → Serves is_at n began new (with_run lost t (line ∷ []) (step ∷ []) calls)
-  line_served is_at n began old new calls lost t line step law was is went stands more keeps =
+      → Serves dumps is_at n began new (with_run lost t (line ∷ []) (step ∷ []) calls)
+  line_served dumps is_at n began old new calls lost t line step law was is went stands more keeps =
       let run = has_run lost t line step calls more in
       let gone = was.gone in
       let now = went gone.end gone.at in
-      serves_on is_at n began old new calls (with_run lost t (line ∷ []) (step ∷ []) calls) run.made
+      serves_on dumps is_at n began old new calls (with_run lost t (line ∷ []) (step ∷ []) calls) run.made
       (counted (line ∷ []) (step ∷ [])) run.is run.adds was stands (record {
         has_header = gone.has_header;
         start = gone.start;
         replayed = gone.replayed;
         end = logged_course gone.end step;
-        led = run.led was.since gone.start gone.end (logged_course gone.end step) gone.led (one_logged law gone.end line step is now.0);
+        led = run.led was.since gone.start gone.end (logged_course gone.end step) gone.led (one_logged dumps law gone.end line step is now.0);
         at = now.1;
       })
       (subst (λ (ls : List Bytes). Keeps new.journal (began.lines ++ released was.since) ls)

@@ -13,7 +13,7 @@ use Rattle.ssi_conflict.specs.Computing.Steps.{smallest_ordered_pivot}
 use Rattle.ssi_store.specs.Meaning.Courses.{Command, Answer, Course, Then}
 use Rattle.ssi_store.specs.Meaning.Replies.{IsAnswer}
 use Rattle.ssi_line.specs.Meaning.Spelling.{Do, IsLineOf}
-use Rattle.ssi_line.specs.Meaning.Steps.{Step, Given, Dumped, NotDumped, Stopped, NotRead, TooLong, IsStep, MayFollow, course_with}
+use Rattle.ssi_line.specs.Meaning.Steps.{Step, Given, Dumped, NotDumped, Stopped, NotRead, TooLong, IsStepOf, MayFollow, course_with}
 use Rattle.ssi_line.specs.Clauses.Counting.{is_stat, is_refusal, counts, logged_course}
 use Rattle.ssi_durable.specs.Meaning.Lines.{is_comment}
 use Rattle.ssi_durable.specs.Meaning.Replays.{LeadsIf, Leads, Replays}
@@ -56,13 +56,13 @@ no_comment law c text is =
 -- ---- steps that count
 
 -- the line of a step that counts is that of a command
-pub command_of : (line : Bytes) (step : Step) → counts step ≡ true → IsStep line step → (c : Command) × IsLineOf (Do c) line
-command_of line (Given c a) e is = (c, is)
-command_of line (Dumped h ts) e is = absurd (false≢true e)
-command_of line NotDumped e is = absurd (false≢true e)
-command_of line Stopped e is = absurd (false≢true e)
-command_of line NotRead e is = absurd (false≢true e)
-command_of line TooLong e is = absurd (false≢true e)
+pub command_of : (dumps : Bool) (line : Bytes) (step : Step) → counts step ≡ true → IsStepOf dumps line step → (c : Command) × IsLineOf (Do c) line
+command_of dumps line (Given c a) e is = (c, is)
+command_of dumps line (Dumped h ts) e is = absurd (false≢true e)
+command_of dumps line NotDumped e is = absurd (false≢true e)
+command_of dumps line Stopped e is = absurd (false≢true e)
+command_of dumps line NotRead e is = absurd (false≢true e)
+command_of dumps line TooLong e is = absurd (false≢true e)
 
 negated : (b : Bool) → not b ≡ true → b ≡ false
 negated true e = absurd (false≢true e)
@@ -80,25 +80,25 @@ leads_by law course line c a e is answer =
       is_next = ap (λ (x : Answer). Then course c x) same;
     })
 
-leads : AreLettered → (course : Course) (line : Bytes) (step : Step) → counts step ≡ true → IsStep line step
+leads : (dumps : Bool) → AreLettered → (course : Course) (line : Bytes) (step : Step) → counts step ≡ true → IsStepOf dumps line step
     → MayFollow course step → Leads course line (course_with course step)
-leads law course line (Given c a) e is follows = leads_by law course line c a e is follows
-leads law course line (Dumped h ts) e is follows = absurd (false≢true e)
-leads law course line NotDumped e is follows = absurd (false≢true e)
-leads law course line Stopped e is follows = absurd (false≢true e)
-leads law course line NotRead e is follows = absurd (false≢true e)
-leads law course line TooLong e is follows = absurd (false≢true e)
+leads dumps law course line (Given c a) e is follows = leads_by law course line c a e is follows
+leads dumps law course line (Dumped h ts) e is follows = absurd (false≢true e)
+leads dumps law course line NotDumped e is follows = absurd (false≢true e)
+leads dumps law course line Stopped e is follows = absurd (false≢true e)
+leads dumps law course line NotRead e is follows = absurd (false≢true e)
+leads dumps law course line TooLong e is follows = absurd (false≢true e)
 
-lead_if : AreLettered → (course : Course) (line : Bytes) (step : Step) (b : Bool) → counts step ≡ b → IsStep line step
+lead_if : (dumps : Bool) → AreLettered → (course : Course) (line : Bytes) (step : Step) (b : Bool) → counts step ≡ b → IsStepOf dumps line step
     → MayFollow course step
     → LeadsIfCounted b course line (cond b (course_with course step) course)
-lead_if law course line step true e is follows = leads law course line step e is follows
-lead_if law course line step false e is follows = refl
+lead_if dumps law course line step true e is follows = leads dumps law course line step e is follows
+lead_if dumps law course line step false e is follows = refl
 
-pub one_logged : AreLettered → (course : Course) (line : Bytes) (step : Step) → IsStep line step → MayFollow course step
+pub one_logged : (dumps : Bool) → AreLettered → (course : Course) (line : Bytes) (step : Step) → IsStepOf dumps line step → MayFollow course step
     → IsLogged course line step (logged_course course step)
-one_logged law course line step is follows =
-    record { follows = follows; leads = lead_if law course line step (counts step) refl is follows }
+one_logged dumps law course line step is follows =
+    record { follows = follows; leads = lead_if dumps law course line step (counts step) refl is follows }
 
 -- ---- lines, and then more
 

@@ -9,7 +9,6 @@ ghost use Rattle.ssi_hub.specs.Clauses.Calls.{Call};
 ghost use Rattle.ssi_durable.specs.Meaning.Lines.{torn, whole_lines};
 ghost use Rattle.ssi_log.specs.Meaning.Texts.{text_of};
 ghost use Rattle.ssi_log.specs.Machinery.Standing.{disk_of};
-ghost use Rattle.ssi_store.specs.Mirror.Stores.{IsAt};
 ghost use Rattle.ssi_durable.specs.Meaning.Lives.{AreLives, IsKept, IsLife};
 ghost use Rattle.ssi_durable.specs.Clauses.Serving.{Began};
 ghost use Rattle.ssi_durable.specs.Mirror.Servers.{Serves, log_of};
@@ -17,9 +16,8 @@ ghost use Rattle.ssi_durable.specs.Meaning.Replays.{Replays};
 
 use crate::Server;
 use sqlite_disk::Disk;
+use ssi_line::ProtocolStore;
 use ssi_line::laws::lines_ask_for_one_thing;
-use ssi_reads::Marks;
-use ssi_versions::Chains;
 
 /// A text is its whole lines, each with a line feed, and then what is torn; and no other lines make it.
 pub fn texts_fall_into_lines()
@@ -48,9 +46,9 @@ pub fn lives_keep_what_was_told()
 
 /// Whenever a server ends, by a crash or otherwise, the lines that are left in the file of its segment end a life: that of the
 /// calls since it has begun the segment.
-pub fn crashes_end_lives<C: Chains + Drop, M: Marks + Drop, D: Disk>(server: &Server<C, M, D>)
+pub fn crashes_end_lives<S: ProtocolStore + Drop, D: Disk>(server: &Server<S, D>)
     ensures { (n : ℕ) (began : Began) (calls : List Call) (file : List ℕ)
-        → Serves (IsAt C.held M.marked) n began server.now calls → D.may_leave (disk_of (log_of server.now)) file
+        → Serves S.keeps S.is_at n began server.now calls → D.may_leave (disk_of (log_of server.now)) file
         → (since : List Call) × (calls ≡ since ++ began.before) × IsLife began.lines since (whole_lines (text_of file)) }
 {
     let _server = server;

@@ -3,7 +3,6 @@
 ghost use Rattle.std.specs.Prelude.{◌≡◌, ◌≤◌, ℕ, List, length, IsTrue, IfOk, IfErr, OnOk};
 ghost use Rattle.sqlite_disk.specs.Disk.{Only};
 ghost use Rattle.ssi_store.specs.Meaning.Courses.{New};
-ghost use Rattle.ssi_store.specs.Mirror.Stores.{IsAt};
 ghost use Rattle.ssi_log.specs.Meaning.Texts.{text_of};
 ghost use Rattle.ssi_log.specs.Machinery.Standing.{disk_of, room_of};
 ghost use Rattle.ssi_durable.specs.Meaning.Lines.{loads_len, torn, whole_lines};
@@ -14,9 +13,7 @@ use crate::RecoveryFault;
 use crate::replaying::replay;
 use sqlite_disk::Disk;
 use ssi_log::Log;
-use ssi_reads::Marks;
-use ssi_store::Store;
-use ssi_versions::Chains;
+use ssi_store::AnyStore;
 use std::alloc::Global;
 
 /// What a recovery has found.
@@ -36,18 +33,18 @@ pub struct Recovered {
 /// `Read` and `Replay` leave the file as it was: of a damaged log nothing is changed. Whatever is returned, a crash leaves
 /// the whole lines that there were, so the call may be made again after it, with another new store: after a fault the store
 /// has carried out some of the lines.
-pub fn recover<C: Chains + Drop, M: Marks + Drop, D: Disk>(
+pub fn recover<S: AnyStore, D: Disk>(
     alloc: Global,
-    store: &mut Store<C, M>,
+    store: &mut S,
     log: &mut Log<D>,
     number: u32,
     ahead: usize,
 ) -> Result<Recovered, RecoveryFault>
-    ensures recovered { IsAt C.held M.marked store.old (New 1) → IfOk result (λ r. (text : List ℕ) × WasRead log.old log.new text
-        × IsReplayed (IsAt C.held M.marked) number (whole_lines text) store.new × HasAll log.new (whole_lines text)
+    ensures recovered { S.is_at store.old (New 1) → IfOk result (λ r. (text : List ℕ) × WasRead log.old log.new text
+        × IsReplayed S.is_at number (whole_lines text) store.new × HasAll log.new (whole_lines text)
         × (r.lines ≡ length (whole_lines text)) × (r.torn ≡ length (torn text)) × (r.loaded ≡ loads_len (whole_lines text))) }
     ensures room { OnOk result (ahead ≤ room_of log.new) }
-    ensures fault { IsAt C.held M.marked store.old (New 1) → IfErr result (RecoveryFails log.old log.new number ahead) }
+    ensures fault { S.is_at store.old (New 1) → IfErr result (RecoveryFails log.old log.new number ahead) }
 
     // Of a file that was just opened, the whole lines stay whenever a crash comes.
     ensures crash { IsTrue (D.is_clean (disk_of log.new)) → Only (D.seen (disk_of log.old)) (D.may_leave (disk_of log.old))

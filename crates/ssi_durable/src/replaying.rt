@@ -3,7 +3,6 @@
 ghost use Rattle.std.specs.Prelude.{◌≡◌, length, IfOk, IfErr, OnOk};
 ghost use Rattle.adya_text.specs.Meaning.Texts.{with_ends};
 ghost use Rattle.ssi_store.specs.Meaning.Courses.{Course, New};
-ghost use Rattle.ssi_store.specs.Mirror.Stores.{IsAt};
 ghost use Rattle.ssi_durable.specs.Meaning.Lines.{loads_len, whole_lines};
 ghost use Rattle.ssi_durable.specs.Meaning.Replays.{Leads};
 ghost use Rattle.ssi_durable.specs.Clauses.Recovery.{IsReplayed, LineFails, ReplayFails};
@@ -13,9 +12,7 @@ ghost use Rattle.ssi_durable.specs.Machinery.Noting.{loaded_with};
 use crate::fault::{LineFault, ReplayFault};
 use crate::lines::{ends_loads, first_line, has_header, is_comment};
 use ssi_line::{Line, read_line};
-use ssi_reads::Marks;
-use ssi_store::{Refusal, Store};
-use ssi_versions::Chains;
+use ssi_store::{AnyStore, Refusal};
 
 /// What was carried out of a text.
 #[derive(Clone, Copy)]
@@ -32,17 +29,13 @@ pub struct Replayed {
 ///
 /// `Header` if the first line isn't that of the segment; `Damaged` at the first line that is no command, or is refused;
 /// `Memory` if memory ran out. After a fault the store has carried out the lines before it.
-pub fn replay<C: Chains + Drop, M: Marks + Drop>(
-    store: &mut Store<C, M>,
-    number: u32,
-    text: &[u8],
-) -> Result<Replayed, ReplayFault>
-    ensures replayed { IsAt C.held M.marked store.old (New 1)
-        → OnOk result (IsReplayed (IsAt C.held M.marked) number (whole_lines text.now) store.new) }
+pub fn replay<S: AnyStore>(store: &mut S, number: u32, text: &[u8]) -> Result<Replayed, ReplayFault>
+    ensures replayed { S.is_at store.old (New 1)
+        → OnOk result (IsReplayed S.is_at number (whole_lines text.now) store.new) }
     ensures lines { IfOk result (λ r. r.lines ≡ length (whole_lines text.now)) }
     ensures len { IfOk result (λ r. r.len ≡ length (with_ends (whole_lines text.now))) }
     ensures loaded { IfOk result (λ r. r.loaded ≡ loads_len (whole_lines text.now)) }
-    ensures fault { IsAt C.held M.marked store.old (New 1) → IfErr result (ReplayFails number (whole_lines text.now)) }
+    ensures fault { S.is_at store.old (New 1) → IfErr result (ReplayFails number (whole_lines text.now)) }
 {
     if !has_header(text, number) {
         return Err(ReplayFault::Header);
@@ -88,13 +81,10 @@ fn at_line(fault: LineFault, line: usize) -> ReplayFault
 }
 
 /// Carries out one line, unless it is a comment.
-fn carry_out<C: Chains + Drop, M: Marks + Drop>(
-    store: &mut Store<C, M>,
-    line: &[u8],
-) -> Result<(), LineFault>
-    ensures carried { (course : Course) → IsAt C.held M.marked store.old course
-        → OnOk result ((next : Course) × Leads course line.now next × IsAt C.held M.marked store.new next) }
-    ensures fault { (course : Course) → IsAt C.held M.marked store.old course → IfErr result (LineFails course line.now) }
+fn carry_out<S: AnyStore>(store: &mut S, line: &[u8]) -> Result<(), LineFault>
+    ensures carried { (course : Course) → S.is_at store.old course
+        → OnOk result ((next : Course) × Leads course line.now next × S.is_at store.new next) }
+    ensures fault { (course : Course) → S.is_at store.old course → IfErr result (LineFails course line.now) }
 {
     if is_comment(line) {
         return Ok(());

@@ -7,7 +7,6 @@ ghost use Rattle.adya_line.specs.Meaning.Lines.{IsPlain};
 ghost use Rattle.adya_values.specs.Mirror.Events.{final_of};
 ghost use Rattle.ssi_store.specs.Meaning.Contents.{contents_after};
 ghost use Rattle.ssi_store.specs.Meaning.Courses.{Course, txn_in};
-ghost use Rattle.ssi_store.specs.Mirror.Stores.{IsAt};
 ghost use Rattle.ssi_hub.specs.Clauses.Calls.{Call, Opened, Received, Wrote, Closed, with_call};
 ghost use Rattle.ssi_hub.specs.Clauses.Buffers.{Buffers, first_unsent, with_received, with_written};
 ghost use Rattle.ssi_hub.specs.Clauses.Clipping.{has_line};
@@ -28,34 +27,29 @@ use crate::journal::{Journal, is_full};
 use adya_values::FinalPair;
 use sqlite_disk::Disk;
 use ssi_hub::{CarriedLine, Hub};
+use ssi_line::ProtocolStore;
 use ssi_line::laws::commands_are_words;
 use ssi_log::{Log, LogFault};
-use ssi_reads::Marks;
-use ssi_store::{Session, Store};
-use ssi_versions::Chains;
+use ssi_store::Session;
 use std::alloc::{AllocError, Global};
 
 /// Connections that use one store at once, and the log of the lines that it has carried out. A reply is given out only once
 /// all lines before it that count are on the disk.
 #[derive(Drop)]
-pub struct Server<C: Chains + Drop, M: Marks + Drop, D: Disk> {
+pub struct Server<S: Drop, D: Disk> {
     hub: Hub,
-    store: Store<C, M>,
+    store: S,
     journal: Journal<D>,
     noted: Noted,
 }
 
-impl<C: Chains + Drop, M: Marks + Drop, D: Disk + Drop> Server<C, M, D> {
+impl<S: ProtocolStore + Drop, D: Disk + Drop> Server<S, D> {
     ghost use Rattle.ssi_durable.specs.Mirror.Servers.{Serves, HasStepped, hub_of, store_of, log_of, is_settled, has_failed};
 
     /// A server of a store that stands for the lines of its log, and that has no connection yet. `AllocError` if memory runs out.
-    pub fn new(
-        alloc: Global,
-        store: Store<C, M>,
-        log: Log<D>,
-    ) -> Result<Server<C, M, D>, AllocError>
-        ensures serves { (n : ℕ) (lines : List Bytes) → IsReplayed (IsAt C.held M.marked) n lines store
-            → HasAll log lines → IfOk result (λ server. Serves (IsAt C.held M.marked) n (from_start lines) server []) }
+    pub fn new(alloc: Global, store: S, log: Log<D>) -> Result<Server<S, D>, AllocError>
+        ensures serves { (n : ℕ) (lines : List Bytes) → IsReplayed S.is_at n lines store
+            → HasAll log lines → IfOk result (λ server. Serves S.keeps S.is_at n (from_start lines) server []) }
         ensures log { IfOk result (λ server. log_of server ≡ log) }
         ensures settled { IfOk result (λ server. is_settled server ≡ true) }
     {
@@ -69,9 +63,9 @@ impl<C: Chains + Drop, M: Marks + Drop, D: Disk + Drop> Server<C, M, D> {
 
     /// Opens a connection, and returns its token, as the hub does.
     pub fn opened(&mut self, alloc: Global) -> Result<u64, AllocError>
-        ensures serves { (n : ℕ) (began : Began) (calls : List Call) → Serves (IsAt C.held M.marked) n began self.old calls
-            → MatchResult result (λ t. Serves (IsAt C.held M.marked) n began self.new (Opened t ∷ calls))
-            (λ _. Serves (IsAt C.held M.marked) n began self.new calls) }
+        ensures serves { (n : ℕ) (began : Began) (calls : List Call) → Serves S.keeps S.is_at n began self.old calls
+            → MatchResult result (λ t. Serves S.keeps S.is_at n began self.new (Opened t ∷ calls))
+            (λ _. Serves S.keeps S.is_at n began self.new calls) }
         ensures token { IfOk result (λ t. t ≡ next_token (hub_of self.old)) }
         ensures stopped { is_stopped (hub_of self.new) ≡ is_stopped (hub_of self.old) }
         ensures settled { is_settled self.new ≡ is_settled self.old }
@@ -82,10 +76,10 @@ impl<C: Chains + Drop, M: Marks + Drop, D: Disk + Drop> Server<C, M, D> {
 
     /// The connection has sent these bytes. `AllocError` if memory runs out; then nothing has changed.
     pub fn received(&mut self, token: u64, bytes: &[u8]) -> Result<(), AllocError>
-        ensures serves { (n : ℕ) (began : Began) (calls : List Call) → Serves (IsAt C.held M.marked) n began self.old calls
+        ensures serves { (n : ℕ) (began : Began) (calls : List Call) → Serves S.keeps S.is_at n began self.old calls
             → MatchResult result
-            (λ _. Serves (IsAt C.held M.marked) n began self.new (with_call (Received token bytes.now) calls))
-            (λ _. Serves (IsAt C.held M.marked) n began self.new calls) }
+            (λ _. Serves S.keeps S.is_at n began self.new (with_call (Received token bytes.now) calls))
+            (λ _. Serves S.keeps S.is_at n began self.new calls) }
         ensures ok { OnOk result (Changed (hub_of self.old) (hub_of self.new) token
             (option_map (with_received bytes.now) (buffers_of (hub_of self.old) token))) }
         ensures err { OnErr result (IsSame (hub_of self.old) (hub_of self.new)) }
@@ -102,10 +96,10 @@ impl<C: Chains + Drop, M: Marks + Drop, D: Disk + Drop> Server<C, M, D> {
     /// a full disk: the call may be tried again. After any other fault the log has failed, and nothing more is carried out or given
     /// out.
     pub fn step(&mut self, alloc: Global, token: u64) -> Result<Option<CarriedLine>, LogFault>
-        ensures serves { (n : ℕ) (began : Began) (calls : List Call) → Serves (IsAt C.held M.marked) n began self.old calls
-            → MatchResult result (λ stepped. MatchOption stepped (Serves (IsAt C.held M.marked) n began self.new calls)
-            (λ carried. HasStepped (IsAt C.held M.marked) n began token calls self.old self.new carried))
-            (λ _. Serves (IsAt C.held M.marked) n began self.new calls) }
+        ensures serves { (n : ℕ) (began : Began) (calls : List Call) → Serves S.keeps S.is_at n began self.old calls
+            → MatchResult result (λ stepped. MatchOption stepped (Serves S.keeps S.is_at n began self.new calls)
+            (λ carried. HasStepped S.keeps S.is_at n began token calls self.old self.new carried))
+            (λ _. Serves S.keeps S.is_at n began self.new calls) }
         ensures when { IfOk result (λ stepped.
             is_some stepped ≡ may_step (is_stopped (hub_of self.old)) (buffers_of (hub_of self.old) token)) }
         ensures fault { IfErr result (λ fault. is_full fault ≡ false → has_failed self.new ≡ true) }
@@ -119,8 +113,8 @@ impl<C: Chains + Drop, M: Marks + Drop, D: Disk + Drop> Server<C, M, D> {
 
     /// Makes room for the first line that waits of the connection. If the file can't grow, `stop` needs none.
     fn make_room(&mut self, token: u64) -> Result<(), LogFault>
-        ensures serves { (n : ℕ) (began : Began) (calls : List Call) → Serves (IsAt C.held M.marked) n began self.old calls
-            → Serves (IsAt C.held M.marked) n began self.new calls }
+        ensures serves { (n : ℕ) (began : Began) (calls : List Call) → Serves S.keeps S.is_at n began self.old calls
+            → Serves S.keeps S.is_at n began self.new calls }
         ensures hub { self.new.hub ≡ self.old.hub }
         ensures store { self.new.store ≡ self.old.store }
         ensures room { OnOk result (HasRoom self.new.journal) }
@@ -141,10 +135,10 @@ impl<C: Chains + Drop, M: Marks + Drop, D: Disk + Drop> Server<C, M, D> {
         requires room { HasRoom self.old.journal }
         requires going { has_failed self.old ≡ false }
         ensures none { IfNone result ((n : ℕ) (began : Began) (calls : List Call)
-            → Serves (IsAt C.held M.marked) n began self.old calls → Serves (IsAt C.held M.marked) n began self.new calls) }
+            → Serves S.keeps S.is_at n began self.old calls → Serves S.keeps S.is_at n began self.new calls) }
         ensures some { IfSome result (λ carried. (n : ℕ) (began : Began) (calls : List Call)
-            → Serves (IsAt C.held M.marked) n began self.old calls
-            → HasStepped (IsAt C.held M.marked) n began token calls self.old self.new carried) }
+            → Serves S.keeps S.is_at n began self.old calls
+            → HasStepped S.keeps S.is_at n began token calls self.old self.new carried) }
         ensures when { is_some result ≡ may_step (is_stopped (hub_of self.old)) (buffers_of (hub_of self.old) token) }
     {
         note(&self.hub, token, &mut self.noted);
@@ -162,8 +156,8 @@ impl<C: Chains + Drop, M: Marks + Drop, D: Disk + Drop> Server<C, M, D> {
     /// Waits until all lines that count are on the disk. After that the replies to all lines may be given out. If it fails, then
     /// nothing more is carried out or given out.
     pub fn settle(&mut self) -> Result<(), LogFault>
-        ensures serves { (n : ℕ) (began : Began) (calls : List Call) → Serves (IsAt C.held M.marked) n began self.old calls
-            → Serves (IsAt C.held M.marked) n began self.new calls }
+        ensures serves { (n : ℕ) (began : Began) (calls : List Call) → Serves S.keeps S.is_at n began self.old calls
+            → Serves S.keeps S.is_at n began self.new calls }
         ensures settled { OnOk result (is_settled self.new ≡ true) }
         ensures failed { OnErr result (has_failed self.new ≡ true) }
         ensures hub { hub_of self.new ≡ hub_of self.old }
@@ -171,17 +165,17 @@ impl<C: Chains + Drop, M: Marks + Drop, D: Disk + Drop> Server<C, M, D> {
         self.journal.settle()
     }
 
-    /// Returns a session that has a transaction, as [`Store::open_session`] does.
+    /// Returns a session that has a transaction, as [`AnyStore::open_session`](ssi_store::AnyStore::open_session) does.
     pub fn open_session(&self) -> Option<Session>
-        ensures some { IfSome result (λ s. (c : Course) → IsAt C.held M.marked (store_of self.now) c → is_some (txn_in s c) ≡ true) }
-        ensures none { IfNone result ((c : Course) → IsAt C.held M.marked (store_of self.now) c → (s : Bytes) → txn_in s c ≡ None) }
+        ensures some { IfSome result (λ s. (c : Course) → S.is_at (store_of self.now) c → is_some (txn_in s c) ≡ true) }
+        ensures none { IfNone result ((c : Course) → S.is_at (store_of self.now) c → (s : Bytes) → txn_in s c ≡ None) }
     {
         self.store.open_session()
     }
 
-    /// Returns what the store holds, as [`Store::contents`] does.
+    /// Returns what the store holds, as [`AnyStore::contents`](ssi_store::AnyStore::contents) does.
     pub fn contents(&self) -> Result<Vec<FinalPair>, AllocError>
-        ensures { IfOk result (λ v. (c : Course) → IsAt C.held M.marked (store_of self.now) c → map final_of v.items ≡ contents_after c) }
+        ensures { IfOk result (λ v. (c : Course) → S.is_at (store_of self.now) c → map final_of v.items ≡ contents_after c) }
     {
         self.store.contents()
     }
@@ -195,14 +189,14 @@ impl<C: Chains + Drop, M: Marks + Drop, D: Disk + Drop> Server<C, M, D> {
 
     /// Begins another segment: goes on with this store and its log. All lines that count are on the disk before that. The
     /// connections stay as they are, with what waits of them and what is to be written to them.
-    pub fn rotate(&mut self, store: Store<C, M>, log: Log<D>)
+    pub fn rotate(&mut self, store: S, log: Log<D>)
         requires { is_settled self.old ≡ true }
         ensures serves { (n next : ℕ) (began : Began) (lines : List Bytes) (calls : List Call)
-            → Serves (IsAt C.held M.marked) n began self.old calls → IsReplayed (IsAt C.held M.marked) next lines store
-            → HasAll log lines → Serves (IsAt C.held M.marked) next (record { lines = lines; before = calls }) self.new calls }
+            → Serves S.keeps S.is_at n began self.old calls → IsReplayed S.is_at next lines store
+            → HasAll log lines → Serves S.keeps S.is_at next (record { lines = lines; before = calls }) self.new calls }
         // A crash leaves all lines of the segment that was left.
         ensures left { (n : ℕ) (began : Began) (calls : List Call) (file : List ℕ)
-            → Serves (IsAt C.held M.marked) n began self.old calls → D.may_leave (disk_of (log_of self.old)) file
+            → Serves S.keeps S.is_at n began self.old calls → D.may_leave (disk_of (log_of self.old)) file
             → (since : List Call) × (calls ≡ since ++ began.before)
             × (whole_lines (text_of file) ≡ began.lines ++ logged since) }
         ensures hub { hub_of self.new ≡ hub_of self.old }
@@ -230,8 +224,8 @@ impl<C: Chains + Drop, M: Marks + Drop, D: Disk + Drop> Server<C, M, D> {
 
     /// The first `count` bytes of [`to_write`](Server::to_write) were written to the connection, or all if there are no more.
     pub fn written(&mut self, token: u64, count: usize)
-        ensures serves { (n : ℕ) (began : Began) (calls : List Call) → Serves (IsAt C.held M.marked) n began self.old calls
-            → Serves (IsAt C.held M.marked) n began self.new (if is_settled self.old
+        ensures serves { (n : ℕ) (began : Began) (calls : List Call) → Serves S.keeps S.is_at n began self.old calls
+            → Serves S.keeps S.is_at n began self.new (if is_settled self.old
             then with_call (Wrote token (first_unsent count (buffers_of (hub_of self.old) token))) calls else calls) }
         ensures written { is_settled self.old ≡ true → Changed (hub_of self.old) (hub_of self.new) token
             (option_map (with_written count) (buffers_of (hub_of self.old) token)) }
@@ -247,8 +241,8 @@ impl<C: Chains + Drop, M: Marks + Drop, D: Disk + Drop> Server<C, M, D> {
 
     /// The connection is gone, as [`Hub::closed`] has it.
     pub fn closed(&mut self, token: u64)
-        ensures serves { (n : ℕ) (began : Began) (calls : List Call) → Serves (IsAt C.held M.marked) n began self.old calls
-            → Serves (IsAt C.held M.marked) n began self.new (with_call (Closed token) calls) }
+        ensures serves { (n : ℕ) (began : Began) (calls : List Call) → Serves S.keeps S.is_at n began self.old calls
+            → Serves S.keeps S.is_at n began self.new (with_call (Closed token) calls) }
         ensures closed { Changed (hub_of self.old) (hub_of self.new) token None }
         ensures settled { is_settled self.new ≡ is_settled self.old }
         ensures failed { has_failed self.new ≡ has_failed self.old }

@@ -1,7 +1,6 @@
 //! A server over a log, and what is done with it.
 
 use crate::life::{CONNECTIONS, Life};
-use crate::plain::{Plain, new_store};
 use crate::texts::text_of;
 use crate::wrong::Wrong;
 use disk_testing::{Lent, Mixing};
@@ -9,11 +8,15 @@ use sqlite_disk::Disk;
 use ssi_durable::{Recovered, RecoveryFault, ReplayFault, Server, recover};
 use ssi_log::{Log, LogFault};
 use ssi_reads::IndexMarks;
+use ssi_store::LiveStore;
 use ssi_versions::KeyChains;
 use std::alloc::Global;
 
+/// A store that keeps no history, since a log does.
+type Logged = LiveStore<KeyChains, IndexMarks>;
+
 /// A server over this disk.
-pub type Serving<D> = Server<KeyChains, IndexMarks, D>;
+pub type Serving<D> = Server<Logged, D>;
 
 /// How a recovery has ended.
 #[derive(Clone, Copy, PartialEq, Eq)]
@@ -29,10 +32,14 @@ pub enum Ending {
     Other,
 }
 
+fn new_logged(alloc: Global) -> Logged {
+    LiveStore::new(alloc, KeyChains::new(alloc), IndexMarks::new(alloc))
+}
+
 /// Recovers the log of a segment, with room for so many bytes more.
 fn recovery<D: Disk>(
     alloc: Global,
-    store: &mut Plain,
+    store: &mut Logged,
     log: &mut Log<D>,
     number: u32,
     ahead: usize,
@@ -51,7 +58,7 @@ fn recovery<D: Disk>(
 /// Recovers the log of a disk, which is to be that of this segment, and does nothing with it.
 pub fn recovery_over(alloc: Global, disk: &mut Mixing, number: u32, ahead: usize) -> Ending {
     let mut log = Log::new(Lent::new(disk));
-    recovery(alloc, &mut new_store(alloc), &mut log, number, ahead)
+    recovery(alloc, &mut new_logged(alloc), &mut log, number, ahead)
 }
 
 /// What is done with a server.
@@ -74,7 +81,7 @@ pub fn live<D: Disk + Drop, P: Plan>(
     life: &mut Life,
     plan: &mut P,
 ) -> Result<(), Wrong> {
-    let mut store = new_store(alloc);
+    let mut store = new_logged(alloc);
     let mut log = Log::new(disk);
     let begins = life.begins(recovery(alloc, &mut store, &mut log, 1, ahead));
     if !matches!(begins, Ok(true)) {

@@ -9,7 +9,7 @@ use Rattle.std.proofs.lemmas.List.Folds.{list_any-append}
 use Rattle.adya_line.specs.Meaning.Lines.{IsPlain}
 use Rattle.adya_text.specs.Meaning.Texts.{with_ends}
 use Rattle.ssi_store.specs.Meaning.Courses.{Course}
-use Rattle.ssi_line.specs.Meaning.Steps.{Step, IsStep, AllGoOn}
+use Rattle.ssi_line.specs.Meaning.Steps.{Step, IsStepOf, AllGoOn}
 use Rattle.ssi_line.specs.Meaning.Steps.{step_text, steps_text, is_stop}
 use Rattle.ssi_line.specs.Clauses.Ends.{WentOn, WentOnLogged}
 use Rattle.ssi_line.specs.Clauses.Answers.{kept}
@@ -102,15 +102,15 @@ not_ready b none has =
 -- ---- one line
 
 -- it was carried out and passed
-pub stepped : {T : Type 0} (is_at : T → Course → Type 0) (old now : Buffers) (bytes front more passed unsent : List ℕ)
+pub stepped : {T : Type 0} (keeps : Bool) (is_at : T → Course → Type 0) (old now : Buffers) (bytes front more passed unsent : List ℕ)
     (len : ℕ) (store after : T) (carried : CarriedLine) → now ≡ old → old.waiting ≡ clipped bytes → IsPlain front
     → now.waiting ≡ front ++ (10 ∷ more) → len ≡ length front → passed ≡ drop 1 (drop len now.waiting)
     → length now.unsent ≤ 65536
-    → ((step : Step) × ((text : List ℕ) → kept front ≡ kept text → IsStep text step)
+    → ((step : Step) × ((text : List ℕ) → kept front ≡ kept text → IsStepOf keeps text step)
     × Replied carried step now.unsent unsent × WentOn is_at store (step ∷ []) after × WentOnLogged is_at store step after)
     → (line : List ℕ) × (step : Step) × (left : List ℕ)
-    × Stepped is_at old bytes store carried line step left (record { waiting = passed; unsent = unsent }) after
-stepped is_at old now bytes front more passed unsent len store after carried same waits plain cut counted left_is short one =
+    × Stepped keeps is_at old bytes store carried line step left (record { waiting = passed; unsent = unsent }) after
+stepped keeps is_at old now bytes front more passed unsent len store after carried same waits plain cut counted left_is short one =
     let (step, made, reply, went, logged) = one in
     let same_waiting : now.waiting ≡ old.waiting = ap (λ (b : Buffers). b.waiting) same in
     let is : clipped bytes ≡ front ++ (10 ∷ more) = sym waits ∙ sym same_waiting ∙ cut in
@@ -164,9 +164,9 @@ replies_more old mid new steps step before now =
     ∙ ap (λ (l : List ℕ). old ++ l)
     (ap (λ (l : List ℕ). steps_text steps ++ l) (sym (append-nil (step_text step))) ∙ sym (text_append steps (step ∷ [])))
 
-pub carried_none : {T : Type 0} (is_at : T → Course → Type 0) (old : Buffers) (bytes : List ℕ) (store : T)
-    → old.waiting ≡ clipped bytes → CarriedOut is_at old bytes store false false [] [] bytes old store
-carried_none is_at old bytes store waits = record {
+pub carried_none : {T : Type 0} (keeps : Bool) (is_at : T → Course → Type 0) (old : Buffers) (bytes : List ℕ) (store : T)
+    → old.waiting ≡ clipped bytes → CarriedOut keeps is_at old bytes store false false [] [] bytes old store
+carried_none keeps is_at old bytes store waits = record {
   plain = All-nil IsPlain;
   cut = refl;
   waits = waits;
@@ -177,20 +177,20 @@ carried_none is_at old bytes store waits = record {
   begun = tt;
 }
 
-pub carried_more : {T : Type 0} (is_at : T → Course → Type 0) (old mid new : Buffers) (bytes left after : List ℕ)
+pub carried_more : {T : Type 0} (keeps : Bool) (is_at : T → Course → Type 0) (old mid new : Buffers) (bytes left after : List ℕ)
     (store between now : T) (carried : CarriedLine) (lines : List (List ℕ)) (steps : List Step) (line : List ℕ) (step : Step)
-    → CarriedOut is_at old bytes store false false lines steps left mid between
-    → Stepped is_at mid left between carried line step after new now
-    → CarriedOut is_at old bytes store (stops_by carried.outcome) (lost_by carried.outcome) (lines ++ line ∷ [])
+    → CarriedOut keeps is_at old bytes store false false lines steps left mid between
+    → Stepped keeps is_at mid left between carried line step after new now
+    → CarriedOut keeps is_at old bytes store (stops_by carried.outcome) (lost_by carried.outcome) (lines ++ line ∷ [])
     (steps ++ step ∷ []) after new now
-carried_more is_at old mid new bytes left after store between now carried lines steps line step so more =
+carried_more keeps is_at old mid new bytes left after store between now carried lines steps line step so more =
     let long : length mid.unsent ≡ length old.unsent + length (steps_text steps) =
     ap (λ (l : List ℕ). length l) (so.replies refl) ∙ length-append old.unsent (steps_text steps) in
     record {
       plain = All-push IsPlain lines line so.plain more.plain;
       cut = cut_more bytes left line after lines so.cut more.cut;
       waits = more.waits;
-      made = steps_append lines (line ∷ []) steps (step ∷ []) so.made (more.made, tt);
+      made = steps_append keeps lines (line ∷ []) steps (step ∷ []) so.made (more.made, tt);
       replies = λ held. replies_more old.unsent mid.unsent new.unsent steps step (so.replies refl) (more.replied.reply held);
       went = went_on_more is_at store between now steps step so.went more.went;
       ends = ends_more (stops_by carried.outcome) steps step so.ends more.replied.stops;
@@ -198,14 +198,14 @@ carried_more is_at old mid new bytes left after store between now carried lines 
     }
 
 -- the only line of a run
-pub carried_one : {T : Type 0} (is_at : T → Course → Type 0) (old new : Buffers) (bytes after : List ℕ) (store now : T)
+pub carried_one : {T : Type 0} (keeps : Bool) (is_at : T → Course → Type 0) (old new : Buffers) (bytes after : List ℕ) (store now : T)
     (carried : CarriedLine) (line : List ℕ) (step : Step) → old.waiting ≡ clipped bytes
-    → Stepped is_at old bytes store carried line step after new now
-    → CarriedOut is_at old bytes store (stops_by carried.outcome) (lost_by carried.outcome) (line ∷ []) (step ∷ []) after new
+    → Stepped keeps is_at old bytes store carried line step after new now
+    → CarriedOut keeps is_at old bytes store (stops_by carried.outcome) (lost_by carried.outcome) (line ∷ []) (step ∷ []) after new
     now
-carried_one is_at old new bytes after store now carried line step waits so =
-    carried_more is_at old old new bytes bytes after store store now carried [] [] line step
-    (carried_none is_at old bytes store waits) so
+carried_one keeps is_at old new bytes after store now carried line step waits so =
+    carried_more keeps is_at old old new bytes bytes after store store now carried [] [] line step
+    (carried_none keeps is_at old bytes store waits) so
 
 -- ---- the ends of a run
 
@@ -213,14 +213,14 @@ neither : (a b : Bool) → (a || b) ≡ false → (a ≡ false) × (b ≡ false)
 neither true b e = cc
 neither false b e = (refl, e)
 
-pub goes_on : {T : Type 0} (is_at : T → Course → Type 0) (old new : Buffers) (bytes left : List ℕ) (store now : T)
+pub goes_on : {T : Type 0} (keeps : Bool) (is_at : T → Course → Type 0) (old new : Buffers) (bytes left : List ℕ) (store now : T)
     (outcome : Outcome) (lines : List (List ℕ)) (steps : List Step) → false ≡ (stops_by outcome || lost_by outcome)
-    → CarriedOut is_at old bytes store (stops_by outcome) (lost_by outcome) lines steps left new now
-    → CarriedOut is_at old bytes store false false lines steps left new now
-goes_on is_at old new bytes left store now outcome lines steps none so =
+    → CarriedOut keeps is_at old bytes store (stops_by outcome) (lost_by outcome) lines steps left new now
+    → CarriedOut keeps is_at old bytes store false false lines steps left new now
+goes_on keeps is_at old new bytes left store now outcome lines steps none so =
     let both = neither (stops_by outcome) (lost_by outcome) (sym none) in
-    subst (λ a. CarriedOut is_at old bytes store a false lines steps left new now) both.0
-    (subst (λ b. CarriedOut is_at old bytes store (stops_by outcome) b lines steps left new now) both.1 so)
+    subst (λ a. CarriedOut keeps is_at old bytes store a false lines steps left new now) both.0
+    (subst (λ b. CarriedOut keeps is_at old bytes store (stops_by outcome) b lines steps left new now) both.1 so)
 
 pub length_more : (lines : List (List ℕ)) (line : List ℕ) → length (lines ++ line ∷ []) ≡ length lines + 1
 length_more lines line = length-append lines (line ∷ [])
@@ -240,14 +240,14 @@ enough_ended outcome most counter lines line new ends counted below = record {
     ended false b e p q = cc
 
 -- no line may be carried out
-pub none_waits : {T : Type 0} (is_at : T → Course → Type 0) (old mid new : Buffers) (bytes left : List ℕ) (store between now : T)
+pub none_waits : {T : Type 0} (keeps : Bool) (is_at : T → Course → Type 0) (old mid new : Buffers) (bytes left : List ℕ) (store between now : T)
     (lines : List (List ℕ)) (steps : List Step) (most counter : ℕ) → new ≡ mid → now ≡ between
     → is_ready mid ≡ false → length lines ≡ counter → counter < most
-    → CarriedOut is_at old bytes store false false lines steps left mid between
-    → CarriedOut is_at old bytes store false false lines steps left new now × IsEnough false false most lines new
-none_waits is_at old mid new bytes left store between now lines steps most counter same same_store none counted below so = (
-  subst (λ (b : Buffers). CarriedOut is_at old bytes store false false lines steps left b now) (sym same)
-      (subst (λ s. CarriedOut is_at old bytes store false false lines steps left mid s) (sym same_store) so),
+    → CarriedOut keeps is_at old bytes store false false lines steps left mid between
+    → CarriedOut keeps is_at old bytes store false false lines steps left new now × IsEnough false false most lines new
+none_waits keeps is_at old mid new bytes left store between now lines steps most counter same same_store none counted below so = (
+  subst (λ (b : Buffers). CarriedOut keeps is_at old bytes store false false lines steps left b now) (sym same)
+      (subst (λ s. CarriedOut keeps is_at old bytes store false false lines steps left mid s) (sym same_store) so),
   record {
     few = omega (arith, counted, below);
     some = λ e. cc;

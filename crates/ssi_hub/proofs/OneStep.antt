@@ -30,11 +30,11 @@ pub idle_before_stop : (stopped : Bool) (had : Option Buffers) → stopped ≡ f
     → may_step stopped had ≡ false
 idle_before_stop stopped had is none = ap (λ s. may_step s had) is ∙ none
 
-line_step : {T : Type 0} (is_at : T → Course → Type 0) (had : Option Buffers) (before now : Buffers) (bytes left : List ℕ)
+line_step : {T : Type 0} (keeps : Bool) (is_at : T → Course → Type 0) (had : Option Buffers) (before now : Buffers) (bytes left : List ℕ)
     (store after : T) (carried : CarriedLine) (line : List ℕ) (step : Step) → had ≡ Some before
-    → Stepped is_at before bytes store carried line step left now after
-    → IsLineStep is_at had store carried line step after
-line_step is_at had before now bytes left store after carried line step has so = record {
+    → Stepped keeps is_at before bytes store carried line step left now after
+    → IsLineStep keeps is_at had store carried line step after
+line_step keeps is_at had before now bytes left store after carried line step has so = record {
   made = so.made;
   first = λ x front rest is waits plain.
       so.first front rest (ap (λ (b : Buffers). b.waiting) (same_Some before x (sym has ∙ is)) ∙ waits) plain;
@@ -44,44 +44,44 @@ line_step is_at had before now bytes left store after carried line step has so =
   logged = so.logged;
 }
 
-stepped_stands : {T : Type 0} (is_at : T → Course → Type 0) (b new : ℕ → Option Buffers) (next t : ℕ) (store after : T)
-    (carried : CarriedLine) (calls : List Call) → StandsFor b next false calls → SteppedAt is_at b t store carried new after
-    → (line : List ℕ) × (step : Step) × IsLineStep is_at (b t) store carried line step after
-    × StandsFor new next (stops_by carried.outcome) (with_run (lost_by carried.outcome) t (line ∷ []) (step ∷ []) calls)
+stepped_stands : {T : Type 0} (keeps : Bool) (is_at : T → Course → Type 0) (b new : ℕ → Option Buffers) (next t : ℕ) (store after : T)
+    (carried : CarriedLine) (calls : List Call) → StandsFor keeps b next false calls → SteppedAt keeps is_at b t store carried new after
+    → (line : List ℕ) × (step : Step) × IsLineStep keeps is_at (b t) store carried line step after
+    × StandsFor keeps new next (stops_by carried.outcome) (with_run (lost_by carried.outcome) t (line ∷ []) (step ∷ []) calls)
     × (all_steps (with_run (lost_by carried.outcome) t (line ∷ []) (step ∷ []) calls) ≡ all_steps calls ++ step ∷ [])
-stepped_stands is_at b new next t store after carried calls s at =
+stepped_stands keeps is_at b new next t store after carried calls s at =
     let (bytes, unsent, served, has) = s.served t in
     let (opened, is) = opened_by (is_open t calls) bytes unsent at.before (sym at.has ∙ has) in
     let waits : at.before.waiting ≡ clipped bytes = ap (λ (x : Buffers). x.waiting) is in
     let (line, step, left, so) = at.steps bytes waits in (
       line,
       step,
-      line_step is_at (b t) at.before at.now bytes left store after carried line step at.has so,
-      carried_stands is_at b new next t (stops_by carried.outcome) (lost_by carried.outcome) at.before at.now bytes unsent
+      line_step keeps is_at (b t) at.before at.now bytes left store after carried line step at.has so,
+      carried_stands keeps is_at b new next t (stops_by carried.outcome) (lost_by carried.outcome) at.before at.now bytes unsent
           left (line ∷ []) (step ∷ []) store after calls s opened served is
-          (carried_one is_at at.before at.now bytes left store after carried line step waits so) at.changes,
+          (carried_one keeps is_at at.before at.now bytes left store after carried line step waits so) at.changes,
       run_adds (lost_by carried.outcome) t (line ∷ []) (step ∷ []) calls opened,
     )
 
 -- what is known of a step that was made
-abbrev pub IsMade : {T : Type 0} → (T → Course → Type 0) → (old new : Hub) → ℕ → T → T → CarriedLine → Type 0
-IsMade is_at old new t store after carried = (is_stopped old ≡ false) × (is_stopped new ≡ stops_by carried.outcome)
-    × SteppedAt is_at (buffers_of old) t store carried (buffers_of new) after
+abbrev pub IsMade : {T : Type 0} → (keeps : Bool) → (T → Course → Type 0) → (old new : Hub) → ℕ → T → T → CarriedLine → Type 0
+IsMade keeps is_at old new t store after carried = (is_stopped old ≡ false) × (is_stopped new ≡ stops_by carried.outcome)
+    × SteppedAt keeps is_at (buffers_of old) t store carried (buffers_of new) after
 
-module _ {T : Type 0} (is_at : T → Course → Type 0) (old new : Hub) (t : ℕ) (store after : T) where
+module _ {T : Type 0} (keeps : Bool) (is_at : T → Course → Type 0) (old new : Hub) (t : ℕ) (store after : T) where
   -- whether a line was carried out
   pub step_when : (r : Option CarriedLine) → IfNone r (may_step (is_stopped old) (buffers_of old t) ≡ false)
-      → IfSome r (IsMade is_at old new t store after) → is_some r ≡ may_step (is_stopped old) (buffers_of old t)
+      → IfSome r (IsMade keeps is_at old new t store after) → is_some r ≡ may_step (is_stopped old) (buffers_of old t)
   step_when None none made = sym none
   step_when (Some carried) none (goes, ended, at) =
       sym (ap (λ s. may_step s (buffers_of old t)) goes ∙ ap (λ (o : Option Buffers). may_step false o) at.has ∙ at.ready)
 
   -- which line was carried out
-  pub step_carried : (r : Option CarriedLine) → IfSome r (IsMade is_at old new t store after)
+  pub step_carried : (r : Option CarriedLine) → IfSome r (IsMade keeps is_at old new t store after)
       → IfSome r (λ carried. (b : Buffers) (bytes : List ℕ) → buffers_of old t ≡ Some b → b.waiting ≡ clipped bytes
       → (line : List ℕ) × (step : Step) × (left : List ℕ) × (now : Buffers)
-      × IsLineStep is_at (buffers_of old t) store carried line step after
-      × CarriedOut is_at b bytes store (stops_by carried.outcome) (lost_by carried.outcome) (line ∷ []) (step ∷ []) left now
+      × IsLineStep keeps is_at (buffers_of old t) store carried line step after
+      × CarriedOut keeps is_at b bytes store (stops_by carried.outcome) (lost_by carried.outcome) (line ∷ []) (step ∷ []) left now
       after
       × (buffers_of new t ≡ left_by (lost_by carried.outcome) now))
   step_carried None made = tt
@@ -93,58 +93,58 @@ module _ {T : Type 0} (is_at : T → Course → Type 0) (old new : Hub) (t : ℕ
         step,
         left,
         at.now,
-        line_step is_at (buffers_of old t) at.before at.now bytes left store after carried line step at.has so,
+        line_step keeps is_at (buffers_of old t) at.before at.now bytes left store after carried line step at.has so,
         subst
-            (λ (x : Buffers). CarriedOut is_at x bytes store (stops_by carried.outcome) (lost_by carried.outcome) (line ∷ [])
+            (λ (x : Buffers). CarriedOut keeps is_at x bytes store (stops_by carried.outcome) (lost_by carried.outcome) (line ∷ [])
             (step ∷ []) left at.now after) same
-            (carried_one is_at at.before at.now bytes left store after carried line step here so),
+            (carried_one keeps is_at at.before at.now bytes left store after carried line step here so),
         at.changes.own,
       )
 
   -- whether it was stopped
-  pub step_stopped : (r : Option CarriedLine) → IfSome r (IsMade is_at old new t store after)
+  pub step_stopped : (r : Option CarriedLine) → IfSome r (IsMade keeps is_at old new t store after)
       → IfSome r (λ carried. is_stopped new ≡ stops_by carried.outcome)
   step_stopped None made = tt
   step_stopped (Some carried) (goes, ended, at) = ended
 
   -- the other connections are as they were
   pub step_others : (r : Option CarriedLine) → IfNone r (IsSame old new × (after ≡ store))
-      → IfSome r (IsMade is_at old new t store after) → (u : ℕ) → u ≢ t → buffers_of new u ≡ buffers_of old u
+      → IfSome r (IsMade keeps is_at old new t store after) → (u : ℕ) → u ≢ t → buffers_of new u ≡ buffers_of old u
   step_others None (same, same_store) made u apart = same.buffers u
   step_others (Some carried) none (goes, ended, at) u apart = at.changes.others u apart
 
   pub step_stands : (r : Option CarriedLine) → IfNone r (IsSame old new × (after ≡ store))
-      → IfSome r (IsMade is_at old new t store after) → next_token new ≡ next_token old → (calls : List Call)
-      → Stands old calls → MatchOption r (Stands new calls) (λ carried. (line : List ℕ) × (step : Step)
-      × IsLineStep is_at (buffers_of old t) store carried line step after
-      × Stands new (with_run (lost_by carried.outcome) t (line ∷ []) (step ∷ []) calls)
+      → IfSome r (IsMade keeps is_at old new t store after) → next_token new ≡ next_token old → (calls : List Call)
+      → Stands keeps old calls → MatchOption r (Stands keeps new calls) (λ carried. (line : List ℕ) × (step : Step)
+      × IsLineStep keeps is_at (buffers_of old t) store carried line step after
+      × Stands keeps new (with_run (lost_by carried.outcome) t (line ∷ []) (step ∷ []) calls)
       × (all_steps (with_run (lost_by carried.outcome) t (line ∷ []) (step ∷ []) calls) ≡ all_steps calls ++ step ∷ []))
   step_stands None (same, same_store) made next_is calls s =
-      stands_same (buffers_of old) (buffers_of new) (next_token old) (next_token new) (is_stopped old) (is_stopped new) calls
+      stands_same keeps (buffers_of old) (buffers_of new) (next_token old) (next_token new) (is_stopped old) (is_stopped new) calls
       same.buffers same.next same.stopped s
   step_stands (Some carried) none (goes, ended, at) next_is calls s =
       let (line, step, one, stands, more) =
-      stepped_stands is_at (buffers_of old) (buffers_of new) (next_token old) t store after carried calls
-      (subst (λ e. StandsFor (buffers_of old) (next_token old) e calls) goes s) at in
+      stepped_stands keeps is_at (buffers_of old) (buffers_of new) (next_token old) t store after carried calls
+      (subst (λ e. StandsFor keeps (buffers_of old) (next_token old) e calls) goes s) at in
       let later = with_run (lost_by carried.outcome) t (line ∷ []) (step ∷ []) calls in (
         line,
         step,
         one,
-        subst (λ n. StandsFor (buffers_of new) n (is_stopped new) later) (sym next_is)
-            (subst (λ e. StandsFor (buffers_of new) (next_token old) e later) (sym ended) stands),
+        subst (λ n. StandsFor keeps (buffers_of new) n (is_stopped new) later) (sym next_is)
+            (subst (λ e. StandsFor keeps (buffers_of new) (next_token old) e later) (sym ended) stands),
         more,
       )
 
   -- the course of the store goes on by the step
   pub step_serves : (r : Option CarriedLine) → IfNone r (IsSame old new × (after ≡ store)) → (start : Course)
-      → (calls : List Call) → Serves is_at start old store calls
-      → MatchOption r (Stands new calls) (λ carried. (line : List ℕ) × (step : Step)
-      × IsLineStep is_at (buffers_of old t) store carried line step after
-      × Stands new (with_run (lost_by carried.outcome) t (line ∷ []) (step ∷ []) calls)
+      → (calls : List Call) → Serves keeps is_at start old store calls
+      → MatchOption r (Stands keeps new calls) (λ carried. (line : List ℕ) × (step : Step)
+      × IsLineStep keeps is_at (buffers_of old t) store carried line step after
+      × Stands keeps new (with_run (lost_by carried.outcome) t (line ∷ []) (step ∷ []) calls)
       × (all_steps (with_run (lost_by carried.outcome) t (line ∷ []) (step ∷ []) calls) ≡ all_steps calls ++ step ∷ []))
-      → MatchOption r (Serves is_at start new after calls) (λ carried. (line : List ℕ) × (step : Step)
-      × IsLineStep is_at (buffers_of old t) store carried line step after
-      × Serves is_at start new after (with_run (lost_by carried.outcome) t (line ∷ []) (step ∷ []) calls))
+      → MatchOption r (Serves keeps is_at start new after calls) (λ carried. (line : List ℕ) × (step : Step)
+      × IsLineStep keeps is_at (buffers_of old t) store carried line step after
+      × Serves keeps is_at start new after (with_run (lost_by carried.outcome) t (line ∷ []) (step ∷ []) calls))
   step_serves None (same, same_store) start calls s stands = record {
     stands = stands;
     follow = s.follow;

@@ -1,5 +1,5 @@
 -- What clauses see of a hub.
-use Rattle.std.specs.Prelude.{◌≡◌, ◌≢◌, ℕ, Bool, true, false, List, Option, Some, None, if◌then◌else◌}
+use Rattle.std.specs.Prelude.{◌≡◌, ◌≢◌, ℕ, Bool, List, Option}
 use Rattle.ssi_hub.specs.Clauses.Buffers.{Buffers}
 use Rattle.ssi_store.specs.Meaning.Courses.{Course}
 use Rattle.ssi_line.specs.Meaning.Steps.{AllMayFollow, course_after}
@@ -20,15 +20,15 @@ next_token hub = hub.next
 abbrev pub is_stopped : Hub → Bool
 is_stopped hub = hub.stopped
 
--- the hub stands for the calls
-abbrev pub Stands : Hub → List Call → Type 0
-Stands hub calls = StandsFor (buffers_of hub) (next_token hub) (is_stopped hub) calls
+-- the hub stands for the calls, on a store that keeps its history or doesn't
+abbrev pub Stands : (keeps : Bool) → Hub → List Call → Type 0
+Stands keeps hub calls = StandsFor keeps (buffers_of hub) (next_token hub) (is_stopped hub) calls
 
 -- the hub stands for the calls, and the store for the course at the start with the steps of all connections, in the order in
 -- which they were carried out; each of them may follow those before it
-pub record Serves {T : Type 0} (is_at : T → Course → Type 0) (start : Course) (hub : Hub) (store : T) (calls : List Call)
+pub record Serves {T : Type 0} (keeps : Bool) (is_at : T → Course → Type 0) (start : Course) (hub : Hub) (store : T) (calls : List Call)
     : Type 0 where
-  pub stands : Stands hub calls
+  pub stands : Stands keeps hub calls
   pub follow : AllMayFollow start (all_steps calls)
   pub at : is_at store (course_after start (all_steps calls))
 

@@ -2,7 +2,6 @@
 
 ghost use Rattle.std.specs.Prelude.{◌≡◌, ℕ, List, ◌∷◌, ◌++◌, false, OnOk, OnErr, is_some, IfSome, IfNone, length, not, ◌&&◌, nat_le};
 ghost use Rattle.adya_line.specs.Meaning.Lines.{IsPlain};
-ghost use Rattle.ssi_store.specs.Mirror.Stores.{IsAt};
 ghost use Rattle.ssi_line.specs.Meaning.Steps.{Step};
 ghost use Rattle.ssi_hub.specs.Clauses.Clipping.{clipped, has_line};
 ghost use Rattle.ssi_hub.specs.Clauses.Buffers.{no_bytes, with_received, with_written};
@@ -13,9 +12,7 @@ ghost use Rattle.ssi_hub.specs.Machinery.Outcomes.{StepsOut};
 
 use crate::replying::reply;
 use crate::{CarriedLine, Inbox, Outcome, Queue};
-use ssi_reads::Marks;
-use ssi_store::Store;
-use ssi_versions::Chains;
+use ssi_line::ProtocolStore;
 use std::alloc::{AllocError, Global};
 use std::marker::Model;
 
@@ -95,15 +92,15 @@ impl Connection {
 
     /// Carries out up to `most` of the lines that wait, oldest first, and adds the replies to what is to be written. It stops
     /// at `stop`, at a reply that memory can't hold, and before a further line while more than 65,536 bytes are unsent.
-    pub(crate) fn run<C: Chains + Drop, M: Marks + Drop>(
+    pub(crate) fn run<S: ProtocolStore>(
         &mut self,
         alloc: Global,
-        store: &mut Store<C, M>,
+        store: &mut S,
         most: usize,
     ) -> Outcome
         ensures { (bytes : List ℕ) → self.old.waiting ≡ clipped bytes
             → (lines : List (List ℕ)) × (steps : List Step) × (left : List ℕ)
-            × CarriedOut (IsAt C.held M.marked) self.old bytes store.old (stops_by result) (lost_by result) lines steps left
+            × CarriedOut S.keeps S.is_at self.old bytes store.old (stops_by result) (lost_by result) lines steps left
             self.new store.new
             × IsEnough (stops_by result) (lost_by result) most lines self.new }
     {
@@ -120,13 +117,13 @@ impl Connection {
 
     /// Carries out the first line that waits, and adds its reply to what is to be written. `None` if no whole line waits or
     /// more than 65,536 bytes are unsent; then nothing is done.
-    pub(crate) fn step<C: Chains + Drop, M: Marks + Drop>(
+    pub(crate) fn step<S: ProtocolStore>(
         &mut self,
         alloc: Global,
-        store: &mut Store<C, M>,
+        store: &mut S,
     ) -> Option<CarriedLine>
         ensures when { is_some result ≡ is_ready self.old }
-        ensures some { IfSome result (λ carried. StepsOut (IsAt C.held M.marked) self.old store.old carried self.new store.new) }
+        ensures some { IfSome result (λ carried. StepsOut S.keeps S.is_at self.old store.old carried self.new store.new) }
         ensures none { IfNone result ((self.new ≡ self.old) × (store.new ≡ store.old)) }
     {
         if self.unsent.len() > MOST_UNSENT {

@@ -2,7 +2,6 @@
 
 ghost use Rattle.std.specs.Prelude.{◌≡◌, ℕ, true, None, Some, OnOk, OnErr, IfSome, IfNone, MatchOption, if◌then◌else◌};
 ghost use Rattle.std.specs.Option.{option_map, option_copied};
-ghost use Rattle.ssi_store.specs.Mirror.Stores.{IsAt};
 ghost use Rattle.ssi_hub.specs.Clauses.Buffers.{Buffers, no_bytes, with_received, with_written};
 ghost use Rattle.ssi_hub.specs.Clauses.Outcomes.{stops_by, lost_by};
 ghost use Rattle.ssi_hub.specs.Clauses.Stepping.{is_ready};
@@ -11,9 +10,7 @@ ghost use Rattle.ssi_hub.specs.Machinery.Changes.{buffers_in, Changes, AreSame, 
 
 use crate::{CarriedLine, Connection, Outcome};
 use indexmap::IndexMap;
-use ssi_reads::Marks;
-use ssi_store::Store;
-use ssi_versions::Chains;
+use ssi_line::ProtocolStore;
 use std::alloc::{AllocError, Global};
 
 /// The open connections.
@@ -74,15 +71,15 @@ impl Connections {
 
     /// Carries out up to `most` lines of the connection, as [`Connection::run`] does, and removes it if a reply is lost. `None`
     /// if it is not open.
-    pub(crate) fn run<C: Chains + Drop, M: Marks + Drop>(
+    pub(crate) fn run<S: ProtocolStore>(
         &mut self,
         alloc: Global,
         token: u64,
-        store: &mut Store<C, M>,
+        store: &mut S,
         most: usize,
     ) -> Option<Outcome>
         ensures { MatchOption result (RanNothing (buffers_in self.old) token store.old (buffers_in self.new) store.new)
-            (λ o. RanAt (IsAt C.held M.marked) (buffers_in self.old) token store.old (stops_by o) (lost_by o) most
+            (λ o. RanAt S.keeps S.is_at (buffers_in self.old) token store.old (stops_by o) (lost_by o) most
             (buffers_in self.new) store.new) }
     {
         let Some(outcome) = self.carry_out(alloc, token, store, most) else {
@@ -92,17 +89,17 @@ impl Connections {
         Some(outcome)
     }
 
-    fn carry_out<C: Chains + Drop, M: Marks + Drop>(
+    fn carry_out<S: ProtocolStore>(
         &mut self,
         alloc: Global,
         token: u64,
-        store: &mut Store<C, M>,
+        store: &mut S,
         most: usize,
     ) -> Option<Outcome>
         ensures none { IfNone result (RanNothing (buffers_in self.old) token store.old (buffers_in self.new) store.new) }
         ensures some { IfSome result (λ o. (old : Buffers) × (now : Buffers) × (buffers_in self.old token ≡ Some old)
             × Changes (buffers_in self.old) (buffers_in self.new) token (Some now)
-            × CarriesOut (IsAt C.held M.marked) old store.old (stops_by o) (lost_by o) most now store.new) }
+            × CarriesOut S.keeps S.is_at old store.old (stops_by o) (lost_by o) most now store.new) }
     {
         let Some(connection) = self.by_token.get_mut(&token) else {
             return None;
@@ -112,14 +109,14 @@ impl Connections {
 
     /// Carries out the first line that waits of the connection, as [`Connection::step`] does, and removes it if the reply is
     /// lost. `None` if it isn't open, or no line of it may be carried out.
-    pub(crate) fn step<C: Chains + Drop, M: Marks + Drop>(
+    pub(crate) fn step<S: ProtocolStore>(
         &mut self,
         alloc: Global,
         token: u64,
-        store: &mut Store<C, M>,
+        store: &mut S,
     ) -> Option<CarriedLine>
         ensures { MatchOption result (NotStepped (buffers_in self.old) token store.old (buffers_in self.new) store.new)
-            (λ carried. SteppedAt (IsAt C.held M.marked) (buffers_in self.old) token store.old carried (buffers_in self.new)
+            (λ carried. SteppedAt S.keeps S.is_at (buffers_in self.old) token store.old carried (buffers_in self.new)
             store.new) }
     {
         let Some(carried) = self.step_open(alloc, token, store) else {
@@ -129,16 +126,16 @@ impl Connections {
         Some(carried)
     }
 
-    fn step_open<C: Chains + Drop, M: Marks + Drop>(
+    fn step_open<S: ProtocolStore>(
         &mut self,
         alloc: Global,
         token: u64,
-        store: &mut Store<C, M>,
+        store: &mut S,
     ) -> Option<CarriedLine>
         ensures none { IfNone result (NotStepped (buffers_in self.old) token store.old (buffers_in self.new) store.new) }
         ensures some { IfSome result (λ carried. (old : Buffers) × (now : Buffers) × (buffers_in self.old token ≡ Some old)
             × (is_ready old ≡ true) × Changes (buffers_in self.old) (buffers_in self.new) token (Some now)
-            × StepsOut (IsAt C.held M.marked) old store.old carried now store.new) }
+            × StepsOut S.keeps S.is_at old store.old carried now store.new) }
     {
         let Some(connection) = self.by_token.get_mut(&token) else {
             return None;

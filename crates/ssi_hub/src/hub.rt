@@ -3,7 +3,6 @@
 ghost use Rattle.std.specs.Prelude.{◌≡◌, ◌≢◌, ◌+◌, ◌∷◌, ◌++◌, ◌⊎◌, ℕ, Bool, List, [], None, Some, true, false, is_some, IsSome, IfSome, IfNone, not, ◌&&◌, nat_le, nat_lt, ◌<◌, length, MatchOption, MatchResult, OnOk, OnErr, IfOk, is_err, IsOk, IsErr};
 ghost use Rattle.std.specs.Option.{option_map};
 ghost use Rattle.ssi_store.specs.Meaning.Courses.{Course};
-ghost use Rattle.ssi_store.specs.Mirror.Stores.{IsAt};
 ghost use Rattle.ssi_line.specs.Meaning.Steps.{Step};
 ghost use Rattle.ssi_line.specs.Clauses.Ends.{WentOn};
 ghost use Rattle.adya_line.specs.Meaning.Lines.{IsPlain};
@@ -17,9 +16,7 @@ ghost use Rattle.ssi_hub.specs.Machinery.Changes.{RanAt, SteppedAt};
 ghost use Rattle.ssi_hub.specs.Mirror.{buffers_of, next_token, is_stopped, Changed, IsSame, Stands, Serves};
 
 use crate::{CarriedLine, Connections};
-use ssi_reads::Marks;
-use ssi_store::Store;
-use ssi_versions::Chains;
+use ssi_line::ProtocolStore;
 use std::alloc::{AllocError, Global};
 
 /// Connections that use one store at once.
@@ -36,7 +33,7 @@ impl Hub {
         ensures empty { (t : ℕ) → buffers_of result t ≡ None }
         ensures next { next_token result ≡ 0 }
         ensures goes_on { is_stopped result ≡ false }
-        ensures stands { Stands result [] }
+        ensures stands { (keeps : Bool) → Stands keeps result [] }
     {
         Hub {
             connections: Connections::new(alloc),
@@ -54,8 +51,8 @@ impl Hub {
         ensures others { IfOk result (λ t. (u : ℕ) → u ≢ t → buffers_of self.new u ≡ buffers_of self.old u) }
         ensures stopped { is_stopped self.new ≡ is_stopped self.old }
         ensures err { OnErr result (IsSame self.old self.new) }
-        ensures stands { (calls : List Call) → Stands self.old calls
-            → MatchResult result (λ t. Stands self.new (Opened t ∷ calls)) (λ _. Stands self.new calls) }
+        ensures stands { (keeps : Bool) (calls : List Call) → Stands keeps self.old calls
+            → MatchResult result (λ t. Stands keeps self.new (Opened t ∷ calls)) (λ _. Stands keeps self.new calls) }
     {
         let token = self.next;
         let Some(next) = token.checked_add(1) else {
@@ -74,9 +71,9 @@ impl Hub {
         ensures ok { OnOk result (Changed self.old self.new token
             (option_map (with_received bytes.now) (buffers_of self.old token))) }
         ensures err { OnErr result (IsSame self.old self.new) }
-        ensures stands { (calls : List Call) → Stands self.old calls
-            → MatchResult result (λ _. Stands self.new (with_call (Received token bytes.now) calls))
-            (λ _. Stands self.new calls) }
+        ensures stands { (keeps : Bool) (calls : List Call) → Stands keeps self.old calls
+            → MatchResult result (λ _. Stands keeps self.new (with_call (Received token bytes.now) calls))
+            (λ _. Stands keeps self.new calls) }
     {
         self.connections.received(token, bytes)
     }
@@ -87,11 +84,11 @@ impl Hub {
     ///
     /// `AllocError` if memory can't hold a reply: that line has been carried out and is the last, and the connection is
     /// closed.
-    pub fn run<C: Chains + Drop, M: Marks + Drop>(
+    pub fn run<S: ProtocolStore>(
         &mut self,
         alloc: Global,
         token: u64,
-        store: &mut Store<C, M>,
+        store: &mut S,
         most: usize,
     ) -> Result<(), AllocError>
         // The first of the lines that wait are carried out, each once and in order, and their replies are added. With an error
@@ -99,7 +96,7 @@ impl Hub {
         ensures carried { (b : Buffers) (bytes : List ℕ) → is_stopped self.old ≡ false → buffers_of self.old token ≡ Some b
             → b.waiting ≡ clipped bytes
             → (stops : Bool) × (lines : List (List ℕ)) × (steps : List Step) × (left : List ℕ) × (now : Buffers)
-            × CarriedOut (IsAt C.held M.marked) b bytes store.old stops (is_err result) lines steps left now store.new
+            × CarriedOut S.keeps S.is_at b bytes store.old stops (is_err result) lines steps left now store.new
             × IsEnough stops (is_err result) most lines now
             × (buffers_of self.new token ≡ left_by (is_err result) now) × (is_stopped self.new ≡ stops) }
 
@@ -110,33 +107,33 @@ impl Hub {
 
         ensures others { (u : ℕ) → u ≢ token → buffers_of self.new u ≡ buffers_of self.old u }
         ensures next { next_token self.new ≡ next_token self.old }
-        ensures stands { (calls : List Call) → Stands self.old calls
+        ensures stands { (calls : List Call) → Stands S.keeps self.old calls
             → (lines : List (List ℕ)) × (steps : List Step)
-            × IsTaken (is_stopped self.old) (is_err result) most (buffers_of self.old token) lines steps
-            × Stands self.new (with_run (is_err result) token lines steps calls)
-            × WentOn (IsAt C.held M.marked) store.old steps store.new
+            × IsTaken S.keeps (is_stopped self.old) (is_err result) most (buffers_of self.old token) lines steps
+            × Stands S.keeps self.new (with_run (is_err result) token lines steps calls)
+            × WentOn S.is_at store.old steps store.new
             × (all_steps (with_run (is_err result) token lines steps calls) ≡ all_steps calls ++ steps) }
 
         // The course of the store goes on by the steps that were carried out, and by no other.
-        ensures serves { (start : Course) (calls : List Call) → Serves (IsAt C.held M.marked) start self.old store.old calls
+        ensures serves { (start : Course) (calls : List Call) → Serves S.keeps S.is_at start self.old store.old calls
             → (lines : List (List ℕ)) × (steps : List Step) × (IsErr result → 0 < length lines)
-            × Serves (IsAt C.held M.marked) start self.new store.new (with_run (is_err result) token lines steps calls) }
+            × Serves S.keeps S.is_at start self.new store.new (with_run (is_err result) token lines steps calls) }
     {
         self.carry_out(alloc, token, store, most)
     }
 
-    fn carry_out<C: Chains + Drop, M: Marks + Drop>(
+    fn carry_out<S: ProtocolStore>(
         &mut self,
         alloc: Global,
         token: u64,
-        store: &mut Store<C, M>,
+        store: &mut S,
         most: usize,
     ) -> Result<(), AllocError>
         ensures idle { (is_stopped self.old ≡ true) ⊎ (buffers_of self.old token ≡ None)
             → IsSame self.old self.new × (store.new ≡ store.old) }
         ensures fine { (is_stopped self.old ≡ true) ⊎ (buffers_of self.old token ≡ None) → IsOk result }
         ensures ran { is_stopped self.old ≡ false → IsSome (buffers_of self.old token)
-            → RanAt (IsAt C.held M.marked) (buffers_of self.old) token store.old (is_stopped self.new) (is_err result) most
+            → RanAt S.keeps S.is_at (buffers_of self.old) token store.old (is_stopped self.new) (is_err result) most
             (buffers_of self.new) store.new }
         ensures next { next_token self.new ≡ next_token self.old }
     {
@@ -157,11 +154,11 @@ impl Hub {
     /// if [`wants_run`](Hub::wants_run) says no; then nothing is done.
     ///
     /// If memory can't hold the reply, the line has been carried out, and the connection is closed.
-    pub fn step<C: Chains + Drop, M: Marks + Drop>(
+    pub fn step<S: ProtocolStore>(
         &mut self,
         alloc: Global,
         token: u64,
-        store: &mut Store<C, M>,
+        store: &mut S,
     ) -> Option<CarriedLine>
         // A line is carried out if and only if one may be.
         ensures when { is_some result ≡ may_step (is_stopped self.old) (buffers_of self.old token) }
@@ -171,43 +168,43 @@ impl Hub {
         ensures carried { IfSome result (λ carried. (b : Buffers) (bytes : List ℕ) → buffers_of self.old token ≡ Some b
             → b.waiting ≡ clipped bytes
             → (line : List ℕ) × (step : Step) × (left : List ℕ) × (now : Buffers)
-            × IsLineStep (IsAt C.held M.marked) (buffers_of self.old token) store.old carried line step store.new
-            × CarriedOut (IsAt C.held M.marked) b bytes store.old (stops_by carried.outcome) (lost_by carried.outcome)
+            × IsLineStep S.keeps S.is_at (buffers_of self.old token) store.old carried line step store.new
+            × CarriedOut S.keeps S.is_at b bytes store.old (stops_by carried.outcome) (lost_by carried.outcome)
             (line ∷ []) (step ∷ []) left now store.new
             × (buffers_of self.new token ≡ left_by (lost_by carried.outcome) now)) }
         ensures stopped { IfSome result (λ carried. is_stopped self.new ≡ stops_by carried.outcome) }
 
         ensures others { (u : ℕ) → u ≢ token → buffers_of self.new u ≡ buffers_of self.old u }
         ensures next { next_token self.new ≡ next_token self.old }
-        ensures stands { (calls : List Call) → Stands self.old calls → MatchOption result (Stands self.new calls)
+        ensures stands { (calls : List Call) → Stands S.keeps self.old calls → MatchOption result (Stands S.keeps self.new calls)
             (λ carried. (line : List ℕ) × (step : Step)
-            × IsLineStep (IsAt C.held M.marked) (buffers_of self.old token) store.old carried line step store.new
-            × Stands self.new (with_run (lost_by carried.outcome) token (line ∷ []) (step ∷ []) calls)
+            × IsLineStep S.keeps S.is_at (buffers_of self.old token) store.old carried line step store.new
+            × Stands S.keeps self.new (with_run (lost_by carried.outcome) token (line ∷ []) (step ∷ []) calls)
             × (all_steps (with_run (lost_by carried.outcome) token (line ∷ []) (step ∷ []) calls)
             ≡ all_steps calls ++ step ∷ [])) }
 
         // The course of the store goes on by this step, and by no other.
-        ensures serves { (start : Course) (calls : List Call) → Serves (IsAt C.held M.marked) start self.old store.old calls
-            → MatchOption result (Serves (IsAt C.held M.marked) start self.new store.new calls)
+        ensures serves { (start : Course) (calls : List Call) → Serves S.keeps S.is_at start self.old store.old calls
+            → MatchOption result (Serves S.keeps S.is_at start self.new store.new calls)
             (λ carried. (line : List ℕ) × (step : Step)
-            × IsLineStep (IsAt C.held M.marked) (buffers_of self.old token) store.old carried line step store.new
-            × Serves (IsAt C.held M.marked) start self.new store.new
+            × IsLineStep S.keeps S.is_at (buffers_of self.old token) store.old carried line step store.new
+            × Serves S.keeps S.is_at start self.new store.new
             (with_run (lost_by carried.outcome) token (line ∷ []) (step ∷ []) calls)) }
     {
         self.carry_out_one(alloc, token, store)
     }
 
-    fn carry_out_one<C: Chains + Drop, M: Marks + Drop>(
+    fn carry_out_one<S: ProtocolStore>(
         &mut self,
         alloc: Global,
         token: u64,
-        store: &mut Store<C, M>,
+        store: &mut S,
     ) -> Option<CarriedLine>
         ensures when { IfNone result (may_step (is_stopped self.old) (buffers_of self.old token) ≡ false) }
         ensures none { IfNone result (IsSame self.old self.new × (store.new ≡ store.old)) }
         ensures some { IfSome result (λ carried. (is_stopped self.old ≡ false)
             × (is_stopped self.new ≡ stops_by carried.outcome)
-            × SteppedAt (IsAt C.held M.marked) (buffers_of self.old) token store.old carried (buffers_of self.new) store.new) }
+            × SteppedAt S.keeps S.is_at (buffers_of self.old) token store.old carried (buffers_of self.new) store.new) }
         ensures next { next_token self.new ≡ next_token self.old }
     {
         if self.is_stopped() {
@@ -248,8 +245,8 @@ impl Hub {
     pub fn written(&mut self, token: u64, count: usize)
         ensures written { Changed self.old self.new token
             (option_map (with_written count) (buffers_of self.old token)) }
-        ensures stands { (calls : List Call) → Stands self.old calls
-            → Stands self.new (with_call (Wrote token (first_unsent count (buffers_of self.old token))) calls) }
+        ensures stands { (keeps : Bool) (calls : List Call) → Stands keeps self.old calls
+            → Stands keeps self.new (with_call (Wrote token (first_unsent count (buffers_of self.old token))) calls) }
     {
         self.connections.written(token, count);
     }
@@ -258,7 +255,8 @@ impl Hub {
     /// was carried out stands, and its transactions stay open.
     pub fn closed(&mut self, token: u64)
         ensures closed { Changed self.old self.new token None }
-        ensures stands { (calls : List Call) → Stands self.old calls → Stands self.new (with_call (Closed token) calls) }
+        ensures stands { (keeps : Bool) (calls : List Call) → Stands keeps self.old calls
+            → Stands keeps self.new (with_call (Closed token) calls) }
     {
         self.connections.remove(token);
     }

@@ -8,7 +8,7 @@ use Rattle.adya_text.specs.Meaning.Texts.{history_text, serial_text}
 use Rattle.ssi_store.specs.Meaning.Courses.{Course}
 use Rattle.ssi_line.specs.Meaning.Steps.{Dumped, MayFollow}
 use Rattle.ssi_line.specs.Clauses.Answers.{Said}
-use Rattle.ssi_line.specs.Machinery.Answering.{IsDumpText}
+use Rattle.ssi_line.specs.Clauses.Dumps.{IsDumpText}
 
 -- both texts were put together
 pub dump_told : {T E : Type 0} (r : Result T E) (bytes : T → List ℕ) (is_at : Course → Type 0) (shown history : History)

@@ -6,6 +6,7 @@ pub mod Consumed
 pub mod StepLists
 pub mod Runs
 pub mod Dumps
+pub mod KeptHistories
 pub mod Drafts
 pub mod Counted
 pub mod CommandLines

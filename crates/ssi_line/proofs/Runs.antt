@@ -48,7 +48,7 @@ took_more a b c lines steps line step ended took is plain eaten made =
     ∙ ap (λ (l : List ℕ). l ++ (line ++ 10 ∷ [])) (sym (append-nil (with_ends lines))) in
     record {
       plain = All-push IsPlain lines line took.plain plain;
-      made = steps_append lines (line ∷ []) steps (step ∷ []) took.made (made, tt);
+      made = steps_append true lines (line ∷ []) steps (step ∷ []) took.made (made, tt);
       consumed = subst (λ (l : List ℕ). Consumes a c l) (sym all)
           (Consumes-trans a b c (with_ends lines ++ []) (line ++ 10 ∷ []) took.consumed whole);
     }

@@ -1,8 +1,8 @@
 -- Lists of lines and of steps, one after the other.
-use Rattle.std.proofs.Common.{◌≡◌, ℕ, List, [], ◌∷◌, ◌++◌, true, refl, sym, ap, subst, ◌∙◌, append_assoc}
+use Rattle.std.proofs.Common.{◌≡◌, ℕ, Bool, List, [], ◌∷◌, ◌++◌, true, refl, sym, ap, subst, ◌∙◌, append_assoc}
 use Rattle.adya_text.specs.Meaning.Texts.{with_ends}
 use Rattle.ssi_store.specs.Meaning.Courses.{Course}
-use Rattle.ssi_line.specs.Meaning.Steps.{Step, Given, Dumped, NotDumped, Stopped, NotRead, TooLong, AreSteps, is_stop}
+use Rattle.ssi_line.specs.Meaning.Steps.{Step, Given, Dumped, NotDumped, Stopped, NotRead, TooLong, AreStepsOf, is_stop}
 use Rattle.ssi_line.specs.Meaning.Steps.{step_text, steps_text, course_with, course_after, MayFollow, AllMayFollow}
 use Rattle.ssi_line.specs.Clauses.Ends.{WentOn}
 
@@ -16,12 +16,12 @@ text_append [] ys = refl
 text_append (s ∷ ss) ys =
     ap (λ (l : List ℕ). step_text s ++ l) (text_append ss ys) ∙ sym (append_assoc (step_text s) (steps_text ss) (steps_text ys))
 
-pub steps_append : (ls ms : List (List ℕ)) (ss ts : List Step) → AreSteps ls ss → AreSteps ms ts
-    → AreSteps (ls ++ ms) (ss ++ ts)
-steps_append [] ms [] ts p q = q
-steps_append [] ms (s ∷ ss) ts p q = absurd p
-steps_append (l ∷ ls) ms [] ts p q = absurd p
-steps_append (l ∷ ls) ms (s ∷ ss) ts p q = (p.0, steps_append ls ms ss ts p.1 q)
+pub steps_append : (keeps : Bool) (ls ms : List (List ℕ)) (ss ts : List Step) → AreStepsOf keeps ls ss → AreStepsOf keeps ms ts
+    → AreStepsOf keeps (ls ++ ms) (ss ++ ts)
+steps_append keeps [] ms [] ts p q = q
+steps_append keeps [] ms (s ∷ ss) ts p q = absurd p
+steps_append keeps (l ∷ ls) ms [] ts p q = absurd p
+steps_append keeps (l ∷ ls) ms (s ∷ ss) ts p q = (p.0, steps_append keeps ls ms ss ts p.1 q)
 
 after_more : (course : Course) (steps : List Step) (step : Step)
     → course_after course (steps ++ step ∷ []) ≡ course_with (course_after course steps) step

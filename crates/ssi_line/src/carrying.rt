@@ -5,8 +5,7 @@ ghost use Rattle.std.specs.Option.{option_copied, option_and_then};
 ghost use Rattle.devices.specs.Mirror.{has_failed};
 ghost use Rattle.ssi_store.specs.Meaning.Courses.{Answer};
 ghost use Rattle.ssi_store.specs.Mirror.Commands.{command_of, answer_of};
-ghost use Rattle.ssi_store.specs.Mirror.Stores.{IsAt};
-ghost use Rattle.ssi_line.specs.Meaning.Steps.{Step, Given, IsStep, step_text};
+ghost use Rattle.ssi_line.specs.Meaning.Steps.{Step, Given, IsStepOf, step_text};
 ghost use Rattle.ssi_line.specs.Clauses.Counting.{counts};
 ghost use Rattle.ssi_line.specs.Clauses.Ends.{WentOn, WentOnLogged};
 ghost use Rattle.ssi_line.specs.Clauses.Answers.{kept, Said, IsCarried};
@@ -14,28 +13,25 @@ ghost use Rattle.ssi_line.specs.Machinery.Answering.{IsDump};
 
 use crate::dump::dump_text;
 use crate::short_line::MAX_LINE_LEN;
-use crate::{Carried, Line, read_line, write_reply};
+use crate::{Carried, Line, ProtocolStore, read_line, write_reply};
 use adya_text::WriteFault;
 use devices::{Watched, put};
-use ssi_reads::Marks;
-use ssi_store::laws::{refusals_change_nothing, stats_change_nothing};
-use ssi_store::{Command, Refusal, Reply, Store};
-use ssi_versions::Chains;
+use ssi_store::{Command, Refusal, Reply};
 use std::alloc::Global;
 use std::io::Write;
 
 /// Carries out one line as [`answer`](crate::answer) does, and returns what came of it, also if the answer can't be written.
-pub fn carry_out<W: Write, C: Chains + Drop, M: Marks + Drop>(
+pub fn carry_out<W: Write, S: ProtocolStore>(
     alloc: Global,
     line: Option<&[u8]>,
     out: &mut Watched<W>,
-    store: &mut Store<C, M>,
+    store: &mut S,
 ) -> Carried
     ensures carried { (step : Step)
-        × ((text : List ℕ) → option_and_then kept (option_copied line.entry) ≡ kept text → IsStep text step)
+        × ((text : List ℕ) → option_and_then kept (option_copied line.entry) ≡ kept text → IsStepOf S.keeps text step)
         × IsCarried W.contents step result out.old out.new
-        × WentOn (IsAt C.held M.marked) store.old (step ∷ []) store.new
-        × WentOnLogged (IsAt C.held M.marked) store.old step store.new }
+        × WentOn S.is_at store.old (step ∷ []) store.new
+        × WentOnLogged S.is_at store.old step store.new }
     ensures fault { IsErr result.written → has_failed out.new ≡ true }
 {
     let Some(text) = short(line) else {
@@ -66,20 +62,20 @@ fn idle(written: Result<(), WriteFault>) -> Carried
     }
 }
 
-fn carry_out_command<W: Write, C: Chains + Drop, M: Marks + Drop>(
+fn carry_out_command<W: Write, S: ProtocolStore>(
     command: Command,
     out: &mut Watched<W>,
-    store: &mut Store<C, M>,
+    store: &mut S,
 ) -> Carried
     ensures carried { (answer : Answer)
         × IsCarried W.contents (Given (command_of command) answer) result out.old out.new
-        × WentOn (IsAt C.held M.marked) store.old (Given (command_of command) answer ∷ []) store.new
-        × WentOnLogged (IsAt C.held M.marked) store.old (Given (command_of command) answer) store.new }
+        × WentOn S.is_at store.old (Given (command_of command) answer ∷ []) store.new
+        × WentOnLogged S.is_at store.old (Given (command_of command) answer) store.new }
     ensures fault { IsErr result.written → has_failed out.new ≡ true }
 {
     let reply = store.apply(command);
-    refusals_change_nothing(store);
-    stats_change_nothing(store);
+    store.refusals_change_nothing();
+    store.stats_change_nothing();
     Carried {
         stops: false,
         counted: counts(&command, &reply),
@@ -105,19 +101,21 @@ fn short(line: Option<&[u8]>) -> Option<&[u8]>
     Some(line)
 }
 
-/// Answers with the texts of the history so far and of a certificate, both at once, or says that memory ran out.
-fn say_dump<W: Write, C: Chains + Drop, M: Marks + Drop>(
+/// Answers with the texts of the history so far and of a certificate, both at once, or says that memory ran out. A store without
+/// its history isn't asked for it.
+fn say_dump<W: Write, S: ProtocolStore>(
     alloc: Global,
-    store: &Store<C, M>,
+    store: &S,
     out: &mut Watched<W>,
 ) -> Result<(), WriteFault>
-    ensures told { (step : Step) × IsDump (IsAt C.held M.marked store.now) step
+    ensures told { (step : Step) × IsDump S.keeps (S.is_at store.now) step
         × Said W.contents out.old out.new (step_text step) result }
     ensures fault { IsErr result → has_failed out.new ≡ true }
 {
-    match dump_text(alloc, store) {
-        Ok(text) => say(&text, out),
-        Err(_) => write_reply(&Err(Refusal::Memory), out),
+    match store.texts(alloc) {
+        Some(Ok(text)) => say(&text, out),
+        Some(Err(_)) => write_reply(&Err(Refusal::Memory), out),
+        None => say(b"? syntax\n", out),
     }
 }
 

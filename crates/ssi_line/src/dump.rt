@@ -4,7 +4,7 @@ ghost use Rattle.std.specs.Prelude.{◌≡◌, ◌++◌, IfOk};
 ghost use Rattle.adya_values.specs.Mirror.Histories.{history_of, serial_txns};
 ghost use Rattle.adya_text.specs.Meaning.Texts.{history_text, serial_text};
 ghost use Rattle.ssi_store.specs.Mirror.Stores.{IsAt};
-ghost use Rattle.ssi_line.specs.Machinery.Answering.{IsDumpText};
+ghost use Rattle.ssi_line.specs.Clauses.Dumps.{IsDumpText};
 
 use adya_text::{write_history, write_serial};
 use adya_values::{History, Serial};

@@ -19,7 +19,7 @@
 //!
 //! `dump` is answered with the text of the history so far and then that of a certificate, or with `! 6 memory`, and
 //! `stop` with `stopped`. Any other line of at most 4096 bytes is answered with `? syntax`, and a longer one with
-//! `? long`.
+//! `? long`. A store that keeps no history answers `dump` with `? syntax`, too.
 #![tactic(auto)]
 
 mod carried;
@@ -30,6 +30,7 @@ mod end;
 pub mod laws;
 mod line;
 mod lines;
+mod protocol_store;
 mod reading;
 mod replies;
 mod serving;
@@ -39,6 +40,7 @@ pub use carried::Carried;
 pub use carrying::carry_out;
 pub use end::End;
 pub use line::Line;
+pub use protocol_store::ProtocolStore;
 pub use reading::read_line;
 pub use replies::write_reply;
 pub use serving::{answer, serve};

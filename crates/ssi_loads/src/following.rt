@@ -5,7 +5,6 @@ ghost use Rattle.adya_keys.specs.Meaning.Keys.{Bytes};
 ghost use Rattle.adya_text.specs.Meaning.Texts.{with_ends};
 ghost use Rattle.ssi_store.specs.Meaning.Contents.{contents_after};
 ghost use Rattle.ssi_store.specs.Meaning.Courses.{New};
-ghost use Rattle.ssi_store.specs.Mirror.Stores.{IsAt};
 ghost use Rattle.ssi_durable.specs.Meaning.Lines.{whole_lines};
 ghost use Rattle.ssi_durable.specs.Clauses.Recovery.{IsReplayed};
 ghost use Rattle.ssi_loads.specs.declared.following.FollowFault.TheVariants.{Memory};
@@ -14,9 +13,7 @@ ghost use Rattle.ssi_loads.specs.Meaning.Loads.{first_lines};
 
 use crate::writing::first_lines;
 use ssi_durable::{ReplayFault, replay};
-use ssi_reads::Marks;
-use ssi_store::Store;
-use ssi_versions::Chains;
+use ssi_store::AnyStore;
 use std::alloc::{AllocError, Global};
 
 /// Why it isn't known how a segment begins.
@@ -38,19 +35,19 @@ impl From<AllocError> for FollowFault {
 
 /// Returns whether the text of segment `next` begins with the lines that load what a store holds after the whole lines of
 /// `text`, which is that of segment `number`. They are carried out on this store, which is new.
-pub fn is_followed<C: Chains + Drop, M: Marks + Drop>(
+pub fn is_followed<S: AnyStore>(
     alloc: Global,
-    store: &mut Store<C, M>,
+    store: &mut S,
     number: u32,
     text: &[u8],
     next: u32,
     next_text: &[u8],
 ) -> Result<bool, FollowFault>
-    ensures followed { IsAt C.held M.marked store.old (New 1) → IfOk result (λ followed.
-        (r : IsReplayed (IsAt C.held M.marked) number (whole_lines text.now) store.new)
+    ensures followed { S.is_at store.old (New 1) → IfOk result (λ followed.
+        (r : IsReplayed S.is_at number (whole_lines text.now) store.new)
         × (followed ≡ true → (rest : Bytes) × (next_text.now ≡ with_ends (first_lines next (contents_after r.course)) ++ rest))
         × (followed ≡ false → (rest : Bytes) → next_text.now ≡ with_ends (first_lines next (contents_after r.course)) ++ rest → ⊥)) }
-    ensures fault { IsAt C.held M.marked store.old (New 1) → IfErr result (FollowFails number (whole_lines text.now)) }
+    ensures fault { S.is_at store.old (New 1) → IfErr result (FollowFails number (whole_lines text.now)) }
 {
     if let Err(fault) = replay(store, number, text) {
         return Err(FollowFault::Replay(fault));

@@ -2,14 +2,9 @@
 //! parts.
 
 ghost use Rattle.ssi_store.specs.Laws.{FinishedAreCovered, OrderedFinishedAreCovered, DumpedAreCovered, OrderedDumpedAreCovered, FinishedRecord, DumpedRecord, CallsAreAllowed, OpenSnapshotsAreHeld, OrderedRefusesNoMore, CollectionsChangeNoReply, UnsafeNamesSmallest, OrderedUnsafeNamesSmallest, SessionsAreInOrder, NoPivotStands, NoOrderedPivotStands, ConflictIsLeast, ScansListSeen, OpenAreCounted, FinalsAreContents, NewTxnsSeeContents};
-ghost use Rattle.ssi_store.specs.Meaning.Courses.{Answer, Command, Course, Refusal, Refused, Stat, Then};
-ghost use Rattle.ssi_store.specs.Mirror.Stores.{IsAt};
 
-use crate::Store;
 use ssi_conflict::laws::{ordered_pivots_are_named, pivots_are_named, quiet_calls_make_no_pair};
-use ssi_reads::Marks;
 use ssi_recorder::laws::commits_are_listed;
-use ssi_versions::Chains;
 use ssi_versions::laws::held_shows;
 
 /// The history of a course that is over is a checked snapshot history without a dangerous structure, by either rule,
@@ -125,18 +120,4 @@ pub fn finals_are_contents()
 /// what the next transaction sees.
 pub fn new_txns_see_contents()
     ensures { NewTxnsSeeContents }
-{}
-
-/// A store that stands for a course in which the last command was refused stands for the course without that command, too.
-/// So a refused command needn't be carried out again for the same answers to those after it.
-pub fn refusals_change_nothing<C: Chains + Drop, M: Marks + Drop>(_store: &Store<C, M>)
-    ensures { (c : Course) (command : Command) (r : Refusal) → IsAt C.held M.marked _store.now (Then c command (Refused r))
-        → IsAt C.held M.marked _store.now c }
-{}
-
-/// A store that stands for a course in which the last command was `stat` stands for the course without that command, too,
-/// whatever was answered. So a `stat` needn't be carried out again for the same answers to the commands after it.
-pub fn stats_change_nothing<C: Chains + Drop, M: Marks + Drop>(_store: &Store<C, M>)
-    ensures { (course : Course) (answer : Answer) → IsAt C.held M.marked _store.now (Then course Stat answer)
-        → IsAt C.held M.marked _store.now course }
 {}

@@ -9,6 +9,7 @@
 #![tactic(auto)]
 
 mod abort;
+mod any_store;
 mod begin;
 mod below;
 mod collect;
@@ -35,6 +36,7 @@ mod store;
 mod whole_past;
 mod write;
 
+pub use any_store::AnyStore;
 pub use command::{Command, Refusal, Reply};
 pub use finish::Finished;
 pub use live_store::LiveStore;

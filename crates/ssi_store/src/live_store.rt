@@ -1,13 +1,15 @@
 //! A store without its history.
 
-ghost use Rattle.std.specs.Prelude.{◌≡◌, [], map, IfOk};
+ghost use Rattle.std.specs.Prelude.{◌≡◌, [], map, true, None, is_some, IfOk, IfSome, IfNone};
+ghost use Rattle.adya_keys.specs.Meaning.Keys.{Bytes};
 ghost use Rattle.adya_values.specs.Mirror.Events.{final_of};
 ghost use Rattle.ssi_reads.specs.Clauses.Marks.{IsEmpty};
 ghost use Rattle.ssi_conflict.specs.Computing.Steps.{smallest_ordered_pivot};
 
 use crate::engine::Engine;
 use crate::no_past::NoPast;
-use crate::{Command, Refusal, Reply};
+use crate::sessions::first_of;
+use crate::{Command, Refusal, Reply, Session};
 use adya_values::{FinalPair, Txn};
 use ssi_reads::Marks;
 use ssi_versions::Chains;
@@ -25,7 +27,7 @@ pub struct LiveStore<C: Chains + Drop, M: Marks + Drop> {
 
 impl<C: Chains + Drop, M: Marks + Drop> LiveStore<C, M> {
     ghost use Rattle.ssi_store.specs.Meaning.Contents.{contents_after};
-    ghost use Rattle.ssi_store.specs.Meaning.Courses.{Course, New};
+    ghost use Rattle.ssi_store.specs.Meaning.Courses.{Course, New, txn_in};
     ghost use Rattle.ssi_store.specs.Meaning.Replies.{IsAnswer};
     ghost use Rattle.ssi_store.specs.Mirror.Commands.{command_of, answer_of};
     ghost use Rattle.ssi_store.specs.Mirror.LiveStores.{IsAt, GoesOn};
@@ -58,6 +60,14 @@ impl<C: Chains + Drop, M: Marks + Drop> LiveStore<C, M> {
         ensures answers { (c : Course) → IsAt C.held M.marked self.old c → IsAnswer smallest_ordered_pivot c (command_of command) (answer_of result) }
     {
         self.engine.apply(command)
+    }
+
+    /// Returns a session that has a transaction. `None` if no session has one.
+    pub fn open_session(&self) -> Option<Session>
+        ensures some { IfSome result (λ s. (c : Course) → IsAt C.held M.marked self.now c → is_some (txn_in s c) ≡ true) }
+        ensures none { IfNone result ((c : Course) → IsAt C.held M.marked self.now c → (s : Bytes) → txn_in s c ≡ None) }
+    {
+        first_of(&self.engine.sessions)
     }
 
     /// Returns by rising key what a transaction would see that begins now: the newest committed value of each key that has

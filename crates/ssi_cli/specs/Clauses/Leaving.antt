@@ -1,5 +1,5 @@
 -- What becomes of the sessions of a connection that is closed.
-use Rattle.std.specs.Prelude.{◌≡◌, ◌<◌, ◌⊎◌, ℕ, List, [], ◌∷◌, ◌++◌, Option, Some}
+use Rattle.std.specs.Prelude.{true, ◌≡◌, ◌<◌, ◌⊎◌, ℕ, List, [], ◌∷◌, ◌++◌, Option, Some}
 use Rattle.std.specs.List.{AllByRecursion}
 use Rattle.adya_keys.specs.Meaning.Keys.{Bytes}
 use Rattle.ssi_store.specs.Meaning.Courses.{Course, Abort}
@@ -32,8 +32,8 @@ AreAborts May (a ∷ rest) before = May a.0 × IsAbort a.0 a.1 (abort_calls rest
 -- sessions that may be were aborted, and nothing else was done
 abbrev pub HasAborted : {T : Type 0} → (T → Course → Type 0) → (Bytes → Type 0) → Hub → T → Hub → T → Type 0
 HasAborted is_at May old store new after =
-    (calls : List Call) → Stands old calls
-    → (aborts : List (Bytes × List Call)) × Stands new (abort_calls aborts ++ calls)
+    (calls : List Call) → Stands true old calls
+    → (aborts : List (Bytes × List Call)) × Stands true new (abort_calls aborts ++ calls)
     × WentOn is_at store (all_steps (abort_calls aborts)) after × AreAborts May aborts calls
 
 -- the connection is the last user of the session, as far as the table knows

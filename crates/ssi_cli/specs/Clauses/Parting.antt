@@ -1,5 +1,5 @@
 -- How a connection ends when the run was stopped.
-use Rattle.std.specs.Prelude.{◌≡◌, ℕ, List, [], ◌∷◌, ◌++◌, Option}
+use Rattle.std.specs.Prelude.{true, ◌≡◌, ℕ, List, [], ◌∷◌, ◌++◌, Option}
 use Rattle.adya_keys.specs.Meaning.Keys.{Bytes}
 use Rattle.ssi_hub.specs.Clauses.Calls.{Call, Closed}
 use Rattle.ssi_hub.specs.Clauses.Serving.{IsServed}
@@ -9,9 +9,9 @@ use Rattle.ssi_cli.specs.Clauses.Turns.{Exchanged, HasUnsent}
 
 -- what the calls say of its replies, if it ends so
 abbrev pub IsPartedFor : ℕ → List Call → Closing → Type 0
-IsPartedFor t calls Ended = (left : Bytes) × IsServed t calls left []
-IsPartedFor t calls Broken = HasUnsent t calls
-IsPartedFor t calls Stopped = HasUnsent t calls
+IsPartedFor t calls Ended = (left : Bytes) × IsServed true t calls left []
+IsPartedFor t calls Broken = HasUnsent true t calls
+IsPartedFor t calls Stopped = HasUnsent true t calls
 IsPartedFor t calls Memory = ⊥
 
 -- replies were written to the connection, nothing was read of it, and then it was closed

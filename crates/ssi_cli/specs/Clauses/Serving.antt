@@ -23,5 +23,5 @@ ends_by_stop SocketFault = false
 pub record Together (stopped : Bool) : Type 0 where
   pub hub : Hub
   pub calls : List Call
-  pub stands : Stands hub calls
+  pub stands : Stands true hub calls
   pub ends : is_stopped hub ≡ stopped

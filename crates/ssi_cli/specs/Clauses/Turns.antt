@@ -21,8 +21,8 @@ use Rattle.ssi_cli.specs.Mirror.{last_at}
 
 -- whatever calls the hub stood for, it stands for these with more, which carry nothing out
 abbrev pub Makes : Hub → Hub → (List Call → List Call → Type 0) → Type 0
-Makes old new Made = (calls : List Call) → Stands old calls
-    → (made : List Call) × Stands new (made ++ calls) × (all_steps made ≡ []) × Made calls made
+Makes old new Made = (calls : List Call) → Stands true old calls
+    → (made : List Call) × Stands true new (made ++ calls) × (all_steps made ≡ []) × Made calls made
 
 -- more is to be read of a connection that is open: the run goes on, no whole line waits, and at most 65536 bytes are unsent
 abbrev pub WantsMore : Bool → Option Buffers → Type 0
@@ -54,28 +54,28 @@ pub record Exchanged {S : Type 0} (remaining contents : S → Option Bytes) (t :
   pub written : Appends (contents old) (contents new) (written_to t calls)
 
 -- replies of the connection are unsent
-abbrev pub HasUnsent : ℕ → List Call → Type 0
-HasUnsent t calls = (left : Bytes) × (unsent : Bytes) × IsServed t calls left unsent × (0 < length unsent)
+abbrev pub HasUnsent : (keeps : Bool) → ℕ → List Call → Type 0
+HasUnsent keeps t calls = (left : Bytes) × (unsent : Bytes) × IsServed keeps t calls left unsent × (0 < length unsent)
 
 -- a whole line of the connection waits
-abbrev pub HasWaiting : ℕ → List Call → Type 0
-HasWaiting t calls = (left : Bytes) × (unsent : Bytes) × IsServed t calls left unsent × (has_line (clipped left) ≡ true)
+abbrev pub HasWaiting : (keeps : Bool) → ℕ → List Call → Type 0
+HasWaiting keeps t calls = (left : Bytes) × (unsent : Bytes) × IsServed keeps t calls left unsent × (has_line (clipped left) ≡ true)
 
 -- all replies of the connection are written, and none of its whole lines waits, unless a line was `stop`
-abbrev pub IsFinished : ℕ → List Call → Type 0
-IsFinished t calls =
-    (left : Bytes) × IsServed t calls left [] × (AllGoOn (all_steps calls) → has_line (clipped left) ≡ false)
+abbrev pub IsFinished : (keeps : Bool) → ℕ → List Call → Type 0
+IsFinished keeps t calls =
+    (left : Bytes) × IsServed keeps t calls left [] × (AllGoOn (all_steps calls) → has_line (clipped left) ≡ false)
 
 -- why the connection was closed, after the calls `made` and those before them; the bytes `dropped` were read of it, and the hub
 -- wasn't given them
-abbrev pub IsClosedFor : ℕ → List Call → List Call → Bytes → Closing → Type 0
-IsClosedFor t made before dropped Ended = (dropped ≡ []) × IsFinished t (made ++ before)
-IsClosedFor t made before dropped Broken = (dropped ≡ []) × HasUnsent t (made ++ before)
+abbrev pub IsClosedFor : (keeps : Bool) → ℕ → List Call → List Call → Bytes → Closing → Type 0
+IsClosedFor keeps t made before dropped Ended = (dropped ≡ []) × IsFinished keeps t (made ++ before)
+IsClosedFor keeps t made before dropped Broken = (dropped ≡ []) × HasUnsent keeps t (made ++ before)
 -- for what it sent, or for what it is to get
-IsClosedFor t made before dropped Memory =
-    (0 < length dropped) ⊎ (HasWaiting t (made ++ before) ⊎ (0 < length (lines_of t made)))
+IsClosedFor keeps t made before dropped Memory =
+    (0 < length dropped) ⊎ (HasWaiting keeps t (made ++ before) ⊎ (0 < length (lines_of t made)))
 -- no turn closes it for that
-IsClosedFor t made before dropped Stopped = ⊥
+IsClosedFor keeps t made before dropped Stopped = ⊥
 
 -- a line of the connection was carried out, or it was closed because memory ran out
 abbrev pub HasBegun : {A : Type 0} → ℕ → List Call → Result A Closing → Type 0
@@ -84,8 +84,8 @@ HasBegun t made (Err Memory) = Unit {0}
 HasBegun t made (Err why) = 0 < length (lines_of t made)
 
 -- all replies of the connection are written, if it is open
-abbrev pub IsAllWritten : ℕ → List Call → Type 0
-IsAllWritten t calls = is_open t calls ≡ true → (left : Bytes) × IsServed t calls left []
+abbrev pub IsAllWritten : (keeps : Bool) → ℕ → List Call → Type 0
+IsAllWritten keeps t calls = is_open t calls ≡ true → (left : Bytes) × IsServed keeps t calls left []
 
 -- the same by what the hub has of it
 abbrev pub NoneUnsent : Option Buffers → Type 0
@@ -98,9 +98,9 @@ HasAllSent None = ⊥
 HasAllSent (Some b) = b.unsent ≡ []
 
 -- the connection was closed for the reason, or wasn't
-abbrev pub IsLeft : {A : Type 0} → ℕ → List Call → List Call → Bytes → Result A Closing → Type 0
-IsLeft t made before dropped (Ok x) = dropped ≡ []
-IsLeft t made before dropped (Err why) = IsClosedFor t made before dropped why
+abbrev pub IsLeft : {A : Type 0} → (keeps : Bool) → ℕ → List Call → List Call → Bytes → Result A Closing → Type 0
+IsLeft keeps t made before dropped (Ok x) = dropped ≡ []
+IsLeft keeps t made before dropped (Err why) = IsClosedFor keeps t made before dropped why
 
 -- the calls, and the one that closes the connection if it was closed
 abbrev pub with_end : {A : Type 0} → Result A Closing → ℕ → List Call → List Call
@@ -113,11 +113,11 @@ with_end (Err why) t made = Closed t ∷ made
 abbrev pub Did : {S T A : Type 0} → (S → Option Bytes) → (S → Option Bytes) → (T → Course → Type 0) → ℕ → Type 0 → Type 0
     → Result A Closing → Option Users → Hub → S → T → Option Users → Hub → S → T → Type 0
 Did remaining contents is_at t May Sure result was old stream store now new left after =
-    (calls : List Call) → Stands old calls
-    → (made : List Call) × (dropped : Bytes) × Stands new (with_end result t made ++ calls)
+    (calls : List Call) → Stands true old calls
+    → (made : List Call) × (dropped : Bytes) × Stands true new (with_end result t made ++ calls)
     × WentOn is_at store (all_steps made) after × Exchanged remaining contents t stream left made dropped
-    × IsLeft t made calls dropped result × HasNoted was now made
-    × (May → HasBegun t made result) × (Sure → OnOk result (IsAllWritten t (made ++ calls)))
+    × IsLeft true t made calls dropped result × HasNoted was now made
+    × (May → HasBegun t made result) × (Sure → OnOk result (IsAllWritten true t (made ++ calls)))
 
 -- lines of the connection were carried out
 abbrev pub IsRunOf : ℕ → Call → Type 0
@@ -127,9 +127,9 @@ IsRunOf t _ = ⊥
 -- the same of calls that carry out lines of the connection, and that its stream has no part in
 abbrev pub Carried : {T A : Type 0} → (T → Course → Type 0) → ℕ → Type 0 → Result A Closing
     → Option Users → Hub → T → Option Users → Hub → T → Type 0
-Carried is_at t May result was old store now new after = (calls : List Call) → Stands old calls
-    → (made : List Call) × Stands new (with_end result t made ++ calls) × WentOn is_at store (all_steps made) after
-    × AllByRecursion (IsRunOf t) made × IsLeft t made calls [] result × HasNoted was now made
+Carried is_at t May result was old store now new after = (calls : List Call) → Stands true old calls
+    → (made : List Call) × Stands true new (with_end result t made ++ calls) × WentOn is_at store (all_steps made) after
+    × AllByRecursion (IsRunOf t) made × IsLeft true t made calls [] result × HasNoted was now made
     × (May → HasBegun t made result)
 
 -- the calls of a connection, after these deeds
@@ -156,8 +156,8 @@ IsCalled (Aborted s calls) = ⊥
 
 -- the hub stands for the calls of these deeds; each abort is of a session whose last user is gone, and without a table there is
 -- none; and whom the table has as the last user of a session, that is the last user
-pub record AreDone (users : Option Users) (hub : Hub) (deeds : List Deed) : Type 0 where
-  pub stands : Stands hub (calls_in deeds)
+pub record AreDone (keeps : Bool) (users : Option Users) (hub : Hub) (deeds : List Deed) : Type 0 where
+  pub stands : Stands keeps hub (calls_in deeds)
   pub due : AreDue deeds
   pub none : is_some users ≡ false → AllByRecursion IsCalled deeds
   pub known : (s : Bytes) (t : ℕ) → last_at users s ≡ Some t → last_user s deeds ≡ Some t
@@ -167,11 +167,11 @@ pub record AreDone (users : Option Users) (hub : Hub) (deeds : List Deed) : Type
 abbrev pub Turned : {S T A : Type 0} → (S → Option Bytes) → (S → Option Bytes) → (T → Course → Type 0) → ℕ → Type 0
     → Result A Closing → Option Users → Hub → S → T → Option Users → Hub → S → T → Type 0
 Turned remaining contents is_at t Sure result was old stream store now new left after =
-    (deeds : List Deed) → AreDone was old deeds
+    (deeds : List Deed) → AreDone true was old deeds
     → (made : List Call) × (dropped : Bytes) × (aborts : List (Bytes × List Call))
-    × AreDone now new (aborted aborts (called (with_end result t made) deeds))
+    × AreDone true now new (aborted aborts (called (with_end result t made) deeds))
     × WentOn is_at store (all_steps made ++ all_steps (abort_calls aborts)) after
     × Exchanged remaining contents t stream left made dropped
-    × IsLeft t made (calls_in deeds) dropped result
+    × IsLeft true t made (calls_in deeds) dropped result
     × (MayRun (is_stopped old) (buffers_of old t) → HasBegun t made result)
-    × (Sure → OnOk result (IsAllWritten t (made ++ calls_in deeds)))
+    × (Sure → OnOk result (IsAllWritten true t (made ++ calls_in deeds)))

@@ -1,12 +1,9 @@
 -- What becomes of the sessions that have a transaction.
-use Rattle.std.specs.Prelude.{◌≡◌, ◌<◌, ℕ, true, List, [], ◌∷◌, ◌++◌, length, is_some}
+use Rattle.std.specs.Prelude.{Bool, ◌≡◌, ◌<◌, ℕ, true, List, [], ◌∷◌, ◌++◌, length, is_some}
 use Rattle.std.specs.List.{AllByRecursion}
 use Rattle.sqlite_disk.specs.declared.Disk.{Ghosts}
 use Rattle.adya_keys.specs.Meaning.Keys.{Bytes}
-use Rattle.ssi_versions.specs.declared.chains.Chains.{Ghosts as HeldBy}
-use Rattle.ssi_reads.specs.declared.marks.Marks.{Ghosts as MarkedBy}
 use Rattle.ssi_store.specs.Meaning.Courses.{Course, New, txn_in}
-use Rattle.ssi_store.specs.declared.store.Store.{Store}
 use Rattle.ssi_hub.specs.Clauses.Calls.{Call, all_steps}
 use Rattle.ssi_durable.specs.declared.server.Server.{Server}
 use Rattle.ssi_durable.specs.Clauses.Serving.{Began}
@@ -40,16 +37,16 @@ AreAbortsOfOpen began (a ∷ rest) before =
 abbrev pub AreCarriedOut : List (Bytes × List Call) → Type 0
 AreCarriedOut aborts = AllByRecursion (λ a. 0 < length (all_steps a.1)) aborts
 
-module _ {C M D : Type 0} {g : HeldBy C} {h : MarkedBy M} {disk : Ghosts D} (is_at : Store C M g h → Course → Type 0)
-    (old new : Server C M D g h disk) where
+module _ {T D : Type 0} {disk : Ghosts D} (dumps : Bool) (is_at : T → Course → Type 0)
+    (old new : Server T D disk) where
   -- sessions that had a transaction were aborted, and nothing else was done
   abbrev pub HasAbortedOpen : Type 0
-  HasAbortedOpen = (n : ℕ) (began : Began) (calls : List Call) → Serves is_at n began old calls
-      → (aborts : List (Bytes × List Call)) × Serves is_at n began new (abort_calls aborts ++ calls)
+  HasAbortedOpen = (n : ℕ) (began : Began) (calls : List Call) → Serves dumps is_at n began old calls
+      → (aborts : List (Bytes × List Call)) × Serves dumps is_at n began new (abort_calls aborts ++ calls)
       × AreAbortsOfOpen began aborts calls
 
   -- the same, each by a line that was carried out
   abbrev pub HasCarriedOutAborts : Type 0
-  HasCarriedOutAborts = (n : ℕ) (began : Began) (calls : List Call) → Serves is_at n began old calls
-      → (aborts : List (Bytes × List Call)) × Serves is_at n began new (abort_calls aborts ++ calls)
+  HasCarriedOutAborts = (n : ℕ) (began : Began) (calls : List Call) → Serves dumps is_at n began old calls
+      → (aborts : List (Bytes × List Call)) × Serves dumps is_at n began new (abort_calls aborts ++ calls)
       × AreAbortsOfOpen began aborts calls × AreCarriedOut aborts

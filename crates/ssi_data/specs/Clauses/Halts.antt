@@ -1,17 +1,15 @@
 -- How the service of all connections halts.
 use Rattle.std.specs.Prelude.{◌≡◌, true}
 use Rattle.sqlite_disk.specs.declared.Disk.{Ghosts}
-use Rattle.ssi_versions.specs.declared.chains.Chains.{Ghosts as HeldBy}
-use Rattle.ssi_reads.specs.declared.marks.Marks.{Ghosts as MarkedBy}
 use Rattle.ssi_hub.specs.Mirror.{is_stopped}
 use Rattle.ssi_durable.specs.declared.server.Server.{Server}
 use Rattle.ssi_durable.specs.Mirror.Servers.{hub_of, is_settled, has_failed}
 use Rattle.ssi_data.specs.declared.halt.Halt.{Halt}
 use Rattle.ssi_data.specs.declared.halt.Halt.TheVariants as for
 
-module _ {C M D : Type 0} {g : HeldBy C} {h : MarkedBy M} {disk : Ghosts D} where
+module _ {T D : Type 0} {disk : Ghosts D} where
   -- after `stop` all lines that count are on the disk; after a failure of the log nothing more is given out
-  abbrev pub HasHalted : Halt → Server C M D g h disk → Type 0
+  abbrev pub HasHalted : Halt → Server T D disk → Type 0
   HasHalted for.Stopped server = (is_stopped (hub_of server) ≡ true) × (is_settled server ≡ true)
   HasHalted (for.Failed fault) server = has_failed server ≡ true
   HasHalted (for.Full why) server = Unit {0}

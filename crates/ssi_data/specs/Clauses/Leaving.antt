@@ -2,10 +2,7 @@
 use Rattle.std.specs.Prelude.{◌<◌, ℕ, Bool, List, ◌++◌, length, IsTrue, Result, IfOk}
 use Rattle.sqlite_disk.specs.declared.Disk.{Ghosts}
 use Rattle.adya_keys.specs.Meaning.Keys.{Bytes}
-use Rattle.ssi_versions.specs.declared.chains.Chains.{Ghosts as HeldBy}
-use Rattle.ssi_reads.specs.declared.marks.Marks.{Ghosts as MarkedBy}
 use Rattle.ssi_store.specs.Meaning.Courses.{Course}
-use Rattle.ssi_store.specs.declared.store.Store.{Store}
 use Rattle.ssi_hub.specs.Clauses.Calls.{Call, all_steps}
 use Rattle.ssi_durable.specs.declared.server.Server.{Server}
 use Rattle.ssi_durable.specs.Clauses.Serving.{Began}
@@ -17,9 +14,9 @@ pub record HasTried {E : Type 0} (session : Bytes) (result : Result Bool E) (cal
   pub abort : IsAbort session made calls
   pub done : IfOk result (λ done. IsTrue done → 0 < length (all_steps made))
 
-module _ {C M D : Type 0} {g : HeldBy C} {h : MarkedBy M} {disk : Ghosts D} where
+module _ {T D : Type 0} {disk : Ghosts D} where
   -- sessions that may be were aborted, and nothing else was done
-  abbrev pub HasAborted : (Store C M g h → Course → Type 0) → (Bytes → Type 0) → (old new : Server C M D g h disk) → Type 0
-  HasAborted is_at May old new = (n : ℕ) (began : Began) (calls : List Call) → Serves is_at n began old calls
-      → (aborts : List (Bytes × List Call)) × Serves is_at n began new (abort_calls aborts ++ calls)
+  abbrev pub HasAborted : (dumps : Bool) → (T → Course → Type 0) → (Bytes → Type 0) → (old new : Server T D disk) → Type 0
+  HasAborted dumps is_at May old new = (n : ℕ) (began : Began) (calls : List Call) → Serves dumps is_at n began old calls
+      → (aborts : List (Bytes × List Call)) × Serves dumps is_at n began new (abort_calls aborts ++ calls)
       × AreAborts May aborts calls

@@ -1,12 +1,9 @@
 -- What becomes of a server that begins the next segment.
-use Rattle.std.specs.Prelude.{◌≡◌, ◌*◌, ◌-◌, ◌^◌, ℕ, List, ◌++◌, None, max, min}
+use Rattle.std.specs.Prelude.{Bool, ◌≡◌, ◌*◌, ◌-◌, ◌^◌, ℕ, List, ◌++◌, None, max, min}
 use Rattle.sqlite_disk.specs.declared.Disk.{Ghosts}
 use Rattle.adya_keys.specs.Meaning.Keys.{Bytes}
-use Rattle.ssi_versions.specs.declared.chains.Chains.{Ghosts as HeldBy}
-use Rattle.ssi_reads.specs.declared.marks.Marks.{Ghosts as MarkedBy}
 use Rattle.ssi_store.specs.Meaning.Contents.{contents_after}
 use Rattle.ssi_store.specs.Meaning.Courses.{Course, txn_in}
-use Rattle.ssi_store.specs.declared.store.Store.{Store}
 use Rattle.ssi_hub.specs.Clauses.Calls.{Call}
 use Rattle.ssi_durable.specs.declared.server.Server.{Server}
 use Rattle.ssi_durable.specs.Clauses.Serving.{Began}
@@ -21,20 +18,20 @@ use Rattle.ssi_data.specs.Clauses.Aborting.{AreAbortsOfOpen, HasAbortedOpen, Has
 abbrev pub due_len : (most loaded : ℕ) → ℕ
 due_len most loaded = max most (min (loaded * 2) (2 ^ 64 - 1))
 
-module _ {C M D : Type 0} {g : HeldBy C} {h : MarkedBy M} {disk : Ghosts D} (is_at : Store C M g h → Course → Type 0) (next : ℕ) where
+module _ {T D : Type 0} {disk : Ghosts D} (dumps : Bool) (is_at : T → Course → Type 0) (next : ℕ) where
   -- Sessions that had a transaction were aborted after these calls, and then the store had come to a course in which no session
   -- has one. The server has begun segment `next` with the lines that load what the store held then, and serves the same calls
-  pub record HasMoved (began : Began) (calls : List Call) (new : Server C M D g h disk) : Type 0 where
+  pub record HasMoved (began : Began) (calls : List Call) (new : Server T D disk) : Type 0 where
     pub aborts : List (Bytes × List Call)
     pub are : AreAbortsOfOpen began aborts calls
     pub course : Course
     pub come : HasComeTo began (abort_calls aborts ++ calls) course
     pub idle : (s : Bytes) → txn_in s course ≡ None
-    pub serves : Serves is_at next
+    pub serves : Serves dumps is_at next
         (record { lines = first_lines next (contents_after course); before = abort_calls aborts ++ calls }) new
         (abort_calls aborts ++ calls)
 
   -- it has, or it goes on as it was, and at most sessions that had a transaction were aborted
-  abbrev pub HasRotated : (old new : Server C M D g h disk) → Rotation → Type 0
-  HasRotated old new Begun = (n : ℕ) (began : Began) (calls : List Call) → Serves is_at n began old calls → HasMoved began calls new
-  HasRotated old new (Kept fault) = HasAbortedOpen is_at old new
+  abbrev pub HasRotated : (old new : Server T D disk) → Rotation → Type 0
+  HasRotated old new Begun = (n : ℕ) (began : Began) (calls : List Call) → Serves dumps is_at n began old calls → HasMoved began calls new
+  HasRotated old new (Kept fault) = HasAbortedOpen dumps is_at old new

@@ -1,11 +1,8 @@
 -- What a server starts with.
-use Rattle.std.specs.Prelude.{◌≡◌, ℕ, [], length, IsTrue}
+use Rattle.std.specs.Prelude.{Bool, ◌≡◌, ℕ, [], length, IsTrue}
 use Rattle.sqlite_disk.specs.declared.Disk.{Ghosts}
 use Rattle.adya_keys.specs.Meaning.Keys.{Bytes}
-use Rattle.ssi_versions.specs.declared.chains.Chains.{Ghosts as HeldBy}
-use Rattle.ssi_reads.specs.declared.marks.Marks.{Ghosts as MarkedBy}
 use Rattle.ssi_store.specs.Meaning.Courses.{Course}
-use Rattle.ssi_store.specs.declared.store.Store.{Store}
 use Rattle.ssi_log.specs.Machinery.Standing.{disk_of}
 use Rattle.ssi_log.specs.Meaning.Texts.{text_of}
 use Rattle.ssi_durable.specs.declared.recovery.Recovered.{Recovered}
@@ -14,17 +11,17 @@ use Rattle.ssi_durable.specs.Meaning.Lines.{loads_len, torn, whole_lines}
 use Rattle.ssi_durable.specs.Clauses.Serving.{from_start}
 use Rattle.ssi_durable.specs.Mirror.Servers.{Serves, log_of}
 
-module _ {C M D : Type 0} {g : HeldBy C} {h : MarkedBy M} {disk : Ghosts D} where
+module _ {T D : Type 0} {disk : Ghosts D} where
   -- no wrong answer of the file was taken as true
-  abbrev pub IsClean : Server C M D g h disk → Type 0
+  abbrev pub IsClean : Server T D disk → Type 0
   IsClean server = IsTrue (disk.is_clean (disk_of (log_of server)))
 
   -- The server of segment n serves the whole lines of this text, with no call so far. The text is that of the file that
   -- showed these bytes, if no wrong answer was taken as true. It has so many whole lines, so many bytes after the last one, and
   -- so many bytes of loads
-  pub record HasStarted (is_at : Store C M g h → Course → Type 0) (n : ℕ) (seen : Bytes) (server : Server C M D g h disk)
+  pub record HasStarted (dumps : Bool) (is_at : T → Course → Type 0) (n : ℕ) (seen : Bytes) (server : Server T D disk)
       (recovered : Recovered) (text : Bytes) : Type 0 where
-    pub serves : Serves is_at n (from_start (whole_lines text)) server []
+    pub serves : Serves dumps is_at n (from_start (whole_lines text)) server []
     pub read : IsClean server → text_of seen ≡ text
     pub lines : recovered.lines ≡ length (whole_lines text)
     pub torn : recovered.torn ≡ length (torn text)

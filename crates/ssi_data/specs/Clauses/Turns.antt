@@ -1,5 +1,5 @@
 -- What is done with one connection.
-use Rattle.std.specs.Prelude.{◌≡◌, ◌<◌, ◌⊎◌, ℕ, List, [], ◌∷◌, ◌++◌, length, Option, Result}
+use Rattle.std.specs.Prelude.{◌≡◌, ◌<◌, ◌⊎◌, ℕ, Bool, List, [], ◌∷◌, ◌++◌, length, Option, Result}
 use Rattle.std.specs.List.{AllByRecursion}
 use Rattle.adya_keys.specs.Meaning.Keys.{Bytes}
 use Rattle.ssi_hub.specs.Clauses.Calls.{Call, Closed, lines_of}
@@ -18,16 +18,16 @@ pub record IsDropped {S : Type 0} (remaining contents : S → Option Bytes) (t :
 
 -- lines of the connection were carried out, and the table has noted them. It may have been closed after them: for what it is
 -- to get, or because the table had no memory for a line that waits
-pub record HasCarriedOut (t : ℕ) (was now : Option Users) (calls made : List Call) : Type 0 where
+pub record HasCarriedOut (dumps : Bool) (t : ℕ) (was now : Option Users) (calls made : List Call) : Type 0 where
   pub runs : List Call
   pub are : AllByRecursion (IsRunOf t) runs
   pub noted : HasNoted was now made
-  pub ends : (made ≡ runs) ⊎ ((made ≡ Closed t ∷ runs) × (HasWaiting t (runs ++ calls) ⊎ (0 < length (lines_of t runs))))
+  pub ends : (made ≡ runs) ⊎ ((made ≡ Closed t ∷ runs) × (HasWaiting dumps t (runs ++ calls) ⊎ (0 < length (lines_of t runs))))
 
 -- replies were written to the connection, and it was closed for the reason, or wasn't
-pub record HasReplied {S A : Type 0} (remaining contents : S → Option Bytes) (t : ℕ) (old new : S) (result : Result A Closing)
+pub record HasReplied {S A : Type 0} (dumps : Bool) (remaining contents : S → Option Bytes) (t : ℕ) (old new : S) (result : Result A Closing)
     (calls made : List Call) : Type 0 where
   pub writes : List Call
   pub is : made ≡ with_end result t writes
   pub exchanged : Exchanged remaining contents t old new writes []
-  pub left : IsLeft t writes calls [] result
+  pub left : IsLeft dumps t writes calls [] result

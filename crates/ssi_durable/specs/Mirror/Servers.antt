@@ -2,10 +2,7 @@
 use Rattle.std.specs.Prelude.{◌≡◌, ℕ, Bool, List, ◌∷◌, [], ◌++◌}
 use Rattle.sqlite_disk.specs.declared.Disk.{Ghosts}
 use Rattle.adya_keys.specs.Meaning.Keys.{Bytes}
-use Rattle.ssi_versions.specs.declared.chains.Chains.{Ghosts as HeldBy}
-use Rattle.ssi_reads.specs.declared.marks.Marks.{Ghosts as MarkedBy}
 use Rattle.ssi_store.specs.Meaning.Courses.{Course}
-use Rattle.ssi_store.specs.declared.store.Store.{Store}
 use Rattle.ssi_line.specs.Meaning.Steps.{Step}
 use Rattle.ssi_hub.specs.declared.hub.Hub.{Hub}
 use Rattle.ssi_hub.specs.declared.outcome.CarriedLine.{CarriedLine}
@@ -20,42 +17,42 @@ use Rattle.ssi_durable.specs.Meaning.Logs.{logged, released}
 use Rattle.ssi_durable.specs.Clauses.Serving.{Began, HasGoneOn, IsTold}
 use Rattle.ssi_durable.specs.Mirror.Journals.{Keeps}
 
-module _ {C M D : Type 0} {g : HeldBy C} {h : MarkedBy M} {disk : Ghosts D} where
-  abbrev pub hub_of : Server C M D g h disk → Hub
+module _ {S D : Type 0} {disk : Ghosts D} where
+  abbrev pub hub_of : Server S D disk → Hub
   hub_of s = s.hub
 
-  abbrev pub store_of : Server C M D g h disk → Store C M g h
+  abbrev pub store_of : Server S D disk → S
   store_of s = s.store
 
-  abbrev pub journal_of : Server C M D g h disk → Journal D disk
+  abbrev pub journal_of : Server S D disk → Journal D disk
   journal_of s = s.journal
 
-  abbrev pub log_of : Server C M D g h disk → Log D disk
+  abbrev pub log_of : Server S D disk → Log D disk
   log_of s = s.journal.log
 
   -- all lines that count are on the disk
-  abbrev pub is_settled : Server C M D g h disk → Bool
+  abbrev pub is_settled : Server S D disk → Bool
   is_settled s = s.journal.is_settled
 
   -- a call of the log has failed
-  abbrev pub has_failed : Server C M D g h disk → Bool
+  abbrev pub has_failed : Server S D disk → Bool
   has_failed s = s.journal.has_failed
 
-  -- The server of segment n has begun it so, and its hub stands for the calls. Its store has gone on from the lines of the
+  -- The server of segment n has begun it so, and its hub stands for the calls, on a store that answers dumps or doesn't. Its store has gone on from the lines of the
   -- beginning by the calls since then. Its journal has these lines and those of the calls since then that count, and a crash
   -- leaves all on which what was written to connections since then rests
-  pub record Serves (is_at : Store C M g h → Course → Type 0) (n : ℕ) (began : Began) (s : Server C M D g h disk)
+  pub record Serves (dumps : Bool) (is_at : S → Course → Type 0) (n : ℕ) (began : Began) (s : Server S D disk)
       (calls : List Call) : Type 0 where
     pub since : List Call
     pub parts : calls ≡ since ++ began.before
-    pub stands : Stands s.hub calls
+    pub stands : Stands dumps s.hub calls
     pub gone : HasGoneOn is_at n began.lines s.store since
     pub told : IsTold calls
     pub keeps : Keeps s.journal (began.lines ++ released since) (began.lines ++ logged since)
 
   -- one line of the connection was carried out: the first one that waited
-  abbrev pub HasStepped : (Store C M g h → Course → Type 0) → ℕ → Began → ℕ → List Call
-      → (old new : Server C M D g h disk) → CarriedLine → Type 0
-  HasStepped is_at n began t calls old new carried = (line : Bytes) × (step : Step)
-      × IsLineStep is_at (buffers_of old.hub t) old.store carried line step new.store
-      × Serves is_at n began new (with_run (lost_by carried.outcome) t (line ∷ []) (step ∷ []) calls)
+  abbrev pub HasStepped : (dumps : Bool) → (S → Course → Type 0) → ℕ → Began → ℕ → List Call
+      → (old new : Server S D disk) → CarriedLine → Type 0
+  HasStepped dumps is_at n began t calls old new carried = (line : Bytes) × (step : Step)
+      × IsLineStep dumps is_at (buffers_of old.hub t) old.store carried line step new.store
+      × Serves dumps is_at n began new (with_run (lost_by carried.outcome) t (line ∷ []) (step ∷ []) calls)

@@ -1,5 +1,5 @@
 -- What a hub has of a connection.
-use Rattle.std.specs.Prelude.{ℕ, List, [], ◌++◌, take, drop, Option, Some, None}
+use Rattle.std.specs.Prelude.{ℕ, [], ◌++◌, take, drop, Option, Some, None}
 use Rattle.adya_keys.specs.Meaning.Keys.{Bytes}
 use Rattle.ssi_hub.specs.Clauses.Clipping.{clipped}
 

@@ -1,5 +1,5 @@
 -- What is kept of the bytes of a connection that are not carried out.
-use Rattle.std.specs.Prelude.{ℕ, suc, ◌==◌, nat_lt, List, [], ◌∷◌, if◌then◌else◌, Bool}
+use Rattle.std.specs.Prelude.{ℕ, suc, ◌==◌, nat_lt, [], ◌∷◌, if◌then◌else◌, Bool}
 use Rattle.std.specs.List.{list_any}
 use Rattle.adya_keys.specs.Meaning.Keys.{Bytes}
 

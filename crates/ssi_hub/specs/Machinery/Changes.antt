@@ -27,19 +27,19 @@ abbrev pub AreSame : (ℕ → Option Buffers) → (ℕ → Option Buffers) → T
 AreSame old new = (t : ℕ) → new t ≡ old t
 
 -- of the bytes of which the connection keeps what waits, lines were carried out
-abbrev pub CarriesOut : {T : Type 0} → (T → Course → Type 0) → Buffers → T → Bool → Bool → ℕ → Buffers → T → Type 0
-CarriesOut is_at old store stops lost most new after = (bytes : Bytes) → old.waiting ≡ clipped bytes
+abbrev pub CarriesOut : {T : Type 0} → (keeps : Bool) → (T → Course → Type 0) → Buffers → T → Bool → Bool → ℕ → Buffers → T → Type 0
+CarriesOut keeps is_at old store stops lost most new after = (bytes : Bytes) → old.waiting ≡ clipped bytes
     → (lines : List Bytes) × (steps : List Step) × (left : Bytes)
-    × CarriedOut is_at old bytes store stops lost lines steps left new after × IsEnough stops lost most lines new
+    × CarriedOut keeps is_at old bytes store stops lost lines steps left new after × IsEnough stops lost most lines new
 
 -- lines of the connection with this token were carried out
-pub record RanAt {T : Type 0} (is_at : T → Course → Type 0) (old : ℕ → Option Buffers) (t : ℕ) (store : T)
+pub record RanAt {T : Type 0} (keeps : Bool) (is_at : T → Course → Type 0) (old : ℕ → Option Buffers) (t : ℕ) (store : T)
     (stops lost : Bool) (most : ℕ) (new : ℕ → Option Buffers) (after : T) : Type 0 where
   pub before : Buffers
   pub now : Buffers
   pub has : old t ≡ Some before
   pub changes : Changes old new t (left_by lost now)
-  pub carried : CarriesOut is_at before store stops lost most now after
+  pub carried : CarriesOut keeps is_at before store stops lost most now after
 
 -- it isn't open, and nothing was done
 pub record RanNothing {T : Type 0} (old : ℕ → Option Buffers) (t : ℕ) (store : T) (new : ℕ → Option Buffers) (after : T)
@@ -49,14 +49,14 @@ pub record RanNothing {T : Type 0} (old : ℕ → Option Buffers) (t : ℕ) (sto
   pub same_store : after ≡ store
 
 -- a line of the connection with this token was carried out
-pub record SteppedAt {T : Type 0} (is_at : T → Course → Type 0) (old : ℕ → Option Buffers) (t : ℕ) (store : T)
+pub record SteppedAt {T : Type 0} (keeps : Bool) (is_at : T → Course → Type 0) (old : ℕ → Option Buffers) (t : ℕ) (store : T)
     (carried : CarriedLine) (new : ℕ → Option Buffers) (after : T) : Type 0 where
   pub before : Buffers
   pub now : Buffers
   pub has : old t ≡ Some before
   pub ready : is_ready before ≡ true
   pub changes : Changes old new t (left_by (lost_by carried.outcome) now)
-  pub steps : StepsOut is_at before store carried now after
+  pub steps : StepsOut keeps is_at before store carried now after
 
 -- no line of it may be carried out, and nothing was done
 pub record NotStepped {T : Type 0} (old : ℕ → Option Buffers) (t : ℕ) (store : T) (new : ℕ → Option Buffers) (after : T)

@@ -1,9 +1,9 @@
 -- What was made of one line.
-use Rattle.std.specs.Prelude.{◌≡◌, ◌≤◌, false, List, [], ◌∷◌, ◌++◌, length}
+use Rattle.std.specs.Prelude.{◌≡◌, ◌≤◌, Bool, false, [], ◌∷◌, ◌++◌, length}
 use Rattle.adya_keys.specs.Meaning.Keys.{Bytes}
 use Rattle.adya_line.specs.Meaning.Lines.{IsPlain}
 use Rattle.ssi_store.specs.Meaning.Courses.{Course}
-use Rattle.ssi_line.specs.Meaning.Steps.{Step, IsStep, step_text, is_stop}
+use Rattle.ssi_line.specs.Meaning.Steps.{Step, IsStepOf, step_text, is_stop}
 use Rattle.ssi_line.specs.Clauses.Counting.{counts}
 use Rattle.ssi_line.specs.Clauses.Ends.{WentOn, WentOnLogged}
 use Rattle.ssi_line.specs.Clauses.Answers.{kept}
@@ -19,20 +19,20 @@ pub record Replied (carried : CarriedLine) (step : Step) (old new : Bytes) : Typ
   pub reply : lost_by carried.outcome ≡ false → new ≡ old ++ step_text step
 
 -- of the bytes, of which `old.waiting` is what was kept, the first line was carried out, and `left` is left
-pub record Stepped {T : Type 0} (is_at : T → Course → Type 0) (old : Buffers) (bytes : Bytes) (store : T)
+pub record Stepped {T : Type 0} (keeps : Bool) (is_at : T → Course → Type 0) (old : Buffers) (bytes : Bytes) (store : T)
     (carried : CarriedLine) (line : Bytes) (step : Step) (left : Bytes) (new : Buffers) (after : T) : Type 0 where
   pub plain : IsPlain line
   pub cut : bytes ≡ line ++ (10 ∷ left)
   pub waits : new.waiting ≡ clipped left
-  pub made : IsStep line step
+  pub made : IsStepOf keeps line step
   pub first : (front rest : Bytes) → old.waiting ≡ front ++ (10 ∷ rest) → IsPlain front
-      → (kept front ≡ kept line) × IsStep front step
+      → (kept front ≡ kept line) × IsStepOf keeps front step
   pub within : length old.unsent ≤ 65536
   pub replied : Replied carried step old.unsent new.unsent
   pub went : WentOn is_at store (step ∷ []) after
   pub logged : WentOnLogged is_at store step after
 
 -- of the bytes of which the connection keeps what waits, a line was carried out
-abbrev pub StepsOut : {T : Type 0} → (T → Course → Type 0) → Buffers → T → CarriedLine → Buffers → T → Type 0
-StepsOut is_at old store carried new after = (bytes : Bytes) → old.waiting ≡ clipped bytes
-    → (line : Bytes) × (step : Step) × (left : Bytes) × Stepped is_at old bytes store carried line step left new after
+abbrev pub StepsOut : {T : Type 0} → (keeps : Bool) → (T → Course → Type 0) → Buffers → T → CarriedLine → Buffers → T → Type 0
+StepsOut keeps is_at old store carried new after = (bytes : Bytes) → old.waiting ≡ clipped bytes
+    → (line : Bytes) × (step : Step) × (left : Bytes) × Stepped keeps is_at old bytes store carried line step left new after

@@ -1,5 +1,5 @@
 -- What is done with one line.
-use Rattle.std.specs.Prelude.{◌≡◌, ℕ, Bool, nat_le, length, Option, Some, None, Result, Ok, Err, MatchResult, if◌then◌else◌}
+use Rattle.std.specs.Prelude.{◌≡◌, Bool, nat_le, length, Option, Some, None, Result, Ok, Err, MatchResult, if◌then◌else◌}
 use Rattle.devices.specs.declared.watched.Watched.{Watched}
 use Rattle.devices.specs.Clauses.Writing.{Grew, Broke}
 use Rattle.adya_keys.specs.Meaning.Keys.{Bytes}

@@ -1,25 +1,13 @@
 -- How a dump is answered.
-use Rattle.std.specs.Prelude.{◌≡◌, ◌++◌, ℕ, List, false}
-use Rattle.adya_values.specs.Meaning.Histories.{History}
-use Rattle.adya_values.specs.Clauses.Acceptance.{IsAccepted}
-use Rattle.adya_text.specs.Meaning.Texts.{history_text, serial_text}
+use Rattle.std.specs.Prelude.{◌≡◌, Bool, false}
 use Rattle.ssi_store.specs.Meaning.Courses.{Course}
 use Rattle.ssi_line.specs.Meaning.Spelling.{Dump, line_text}
-use Rattle.ssi_line.specs.Meaning.Steps.{Step, Dumped, IsStep, MayFollow, course_with, is_stop}
+use Rattle.ssi_line.specs.Meaning.Steps.{Step, IsStepOf, MayFollow, course_with, is_stop}
 use Rattle.ssi_line.specs.Clauses.Counting.{counts}
 
--- the text is that of a history and of a certificate that it is accepted with; the history is that of each of these courses
--- so far
-pub record IsDumpText (is_at : Course → Type 0) (text : List ℕ) : Type 0 where
-  pub history : History
-  pub serial : List ℕ
-  pub is : text ≡ history_text history ++ serial_text serial
-  pub accepted : IsAccepted history serial
-  pub follows : (course : Course) → is_at course → MayFollow course (Dumped history serial)
-
--- the step is one that a dump makes of a store that stands for these courses
-pub record IsDump (is_at : Course → Type 0) (step : Step) : Type 0 where
-  pub made : IsStep (line_text Dump) step
+-- the step is one that a dump makes of a store that stands for these courses, and keeps its history or doesn't
+pub record IsDump (keeps : Bool) (is_at : Course → Type 0) (step : Step) : Type 0 where
+  pub made : IsStepOf keeps (line_text Dump) step
   pub goes_on : is_stop step ≡ false
   pub idle : counts step ≡ false
   pub follows : (course : Course) → is_at course → MayFollow course step

@@ -1,5 +1,5 @@
 -- What is made of a line, what is written for it, how the store's course goes on, and which step ends a run.
-use Rattle.std.specs.Prelude.{◌≡◌, ◌<◌, ◌≤◌, Bool, true, false, List, [], ◌∷◌, ◌++◌, codes, length, flat_map, All}
+use Rattle.std.specs.Prelude.{◌≡◌, ◌<◌, ◌≤◌, ◌⊎◌, Bool, true, false, List, [], ◌∷◌, ◌++◌, codes, length, flat_map, All}
 use Rattle.adya_keys.specs.Meaning.Keys.{Bytes}
 use Rattle.adya_values.specs.Meaning.Histories.{Txns, History}
 use Rattle.adya_values.specs.Clauses.Acceptance.{IsAccepted}
@@ -23,19 +23,36 @@ pub data Step : Type 0 where
   NotRead : Step
   TooLong : Step
 
--- the line makes this step; the history of a dump is accepted with its certificate
+-- what holds of a store that keeps its history, and of no other
+abbrev pub IfKept : Bool → Type 0 → Type 0
+IfKept true P = P
+IfKept false P = ⊥
+
+-- the line asks for nothing: it is no line of the protocol, and neither is that of a dump if the store doesn't keep its history
+abbrev pub AsksForNothing : Bool → Bytes → Type 0
+AsksForNothing true line = IsNoLine line
+AsksForNothing false line = IsNoLine line ⊎ (line ≡ line_text Dump)
+
+-- the line makes this step of a store that keeps its history or doesn't; the history of a dump is accepted with its certificate
+abbrev pub IsStepOf : (keeps : Bool) → Bytes → Step → Type 0
+IsStepOf keeps line (Given c a) = IsLineOf (Do c) line
+IsStepOf keeps line (Dumped h ts) = IfKept keeps ((line ≡ line_text Dump) × IsAccepted h ts)
+IsStepOf keeps line NotDumped = IfKept keeps (line ≡ line_text Dump)
+IsStepOf keeps line Stopped = line ≡ line_text Stop
+IsStepOf keeps line NotRead = (length line ≤ 4096) × AsksForNothing keeps line
+IsStepOf keeps line TooLong = 4096 < length line
+
+abbrev pub AreStepsOf : (keeps : Bool) → List Bytes → List Step → Type 0
+AreStepsOf keeps [] [] = Unit {0}
+AreStepsOf keeps (l ∷ ls) (s ∷ ss) = IsStepOf keeps l s × AreStepsOf keeps ls ss
+AreStepsOf keeps _ _ = ⊥
+
+-- the same of a store that keeps it
 abbrev pub IsStep : Bytes → Step → Type 0
-IsStep line (Given c a) = IsLineOf (Do c) line
-IsStep line (Dumped h ts) = (line ≡ line_text Dump) × IsAccepted h ts
-IsStep line NotDumped = line ≡ line_text Dump
-IsStep line Stopped = line ≡ line_text Stop
-IsStep line NotRead = (length line ≤ 4096) × IsNoLine line
-IsStep line TooLong = 4096 < length line
+IsStep line step = IsStepOf true line step
 
 abbrev pub AreSteps : List Bytes → List Step → Type 0
-AreSteps [] [] = Unit {0}
-AreSteps (l ∷ ls) (s ∷ ss) = IsStep l s × AreSteps ls ss
-AreSteps _ _ = ⊥
+AreSteps lines steps = AreStepsOf true lines steps
 
 abbrev pub step_text : Step → Bytes
 step_text (Given c a) = answer_line a

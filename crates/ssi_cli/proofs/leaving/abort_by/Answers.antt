@@ -1,4 +1,4 @@
-use Rattle.std.proofs.Common.{[], sym, subst, ◌∙◌, List}
+use Rattle.std.proofs.Common.{true, [], sym, subst, ◌∙◌, List}
 use Rattle.std.specs.Prelude.{is_err}
 use Rattle.ssi_store.specs.Mirror.Stores.{IsAt}
 use Rattle.ssi_line.specs.Meaning.Steps.{Step}
@@ -8,13 +8,13 @@ use Rattle.ssi_cli.proofs.leaving.abort_by.Goals as goal
 
 pub returns-in_default-clause-aborted : goal.returns-in_default-clause-aborted
 returns-in_default-clause-aborted g c = λ calls s.
-    ([], c.in_default.ensures.stands calls s, λ course at. (tt, at), no_abort c.args.hub.now c.args.session calls s)
+    ([], c.in_default.ensures.stands true calls s, λ course at. (tt, at), no_abort c.args.hub.now c.args.session calls s)
 
 pub returns-then-is_err-clause-aborted : goal.returns-then-is_err-clause-aborted
 returns-then-is_err-clause-aborted g c = λ calls s.
     let (made, stands, quiet, is) =
     only_opened c.args.hub.now c.opened.new.self c.hand_on.new.hub c.args.session c.in-Ok.token c.in-Ok.ensures.token
-    c.in-Ok.ensures.stands
+    (c.in-Ok.ensures.stands true)
     (λ calls s. when_err _ c.hand_on.result (sym c.is_err.ensures.value ∙ c.if-is_err.true) (c.hand_on.ensures.stands calls s))
     calls s in (
       made,
@@ -28,11 +28,11 @@ pub returns-clause-aborted : goal.returns-clause-aborted
 returns-clause-aborted g c =
     carried_out (IsAt {g = g.C.Chains} {h = g.M.Marks} g.C.Chains.held g.M.Marks.marked) c.args.hub.now c.opened.new.self
     c.hand_on.new.hub c.run.new.self c.closed.new.self c.args.store.now c.run.new.store c.args.session c.args.line.now
-    c.in-Ok.token c.requires c.in-Ok.ensures.token c.in-Ok.ensures.stands
+    c.in-Ok.token c.requires c.in-Ok.ensures.token (c.in-Ok.ensures.stands true)
     (λ calls s. when_ok _ c.hand_on.result (sym c.is_err.ensures.value ∙ c.if-is_err.false) (c.hand_on.ensures.stands calls s))
     (λ calls s. let (lines, steps, some, stands, went, grew) = c.run.ensures.stands calls s in
     (is_err c.run.result, lines, steps, stands, went, grew))
-    c.closed.ensures.stands
+    (c.closed.ensures.stands true)
 
 pub returns-in_default-clause-gone : goal.returns-in_default-clause-gone
 returns-in_default-clause-gone g c = λ t none. c.in_default.ensures.err.buffers t ∙ none

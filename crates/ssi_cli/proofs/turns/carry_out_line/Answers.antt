@@ -1,4 +1,4 @@
-use Rattle.std.proofs.Common.{◌≡◌, ◌∙◌, refl, sym, ap, Ok, Err, Some, arith}
+use Rattle.std.proofs.Common.{true, ◌≡◌, ◌∙◌, refl, sym, ap, Ok, Err, Some, arith}
 use Rattle.std.specs.Prelude.{is_err}
 use Rattle.std.proofs.lemmas.Option.{same_Some}
 use Rattle.ssi_store.specs.Mirror.Stores.{IsAt}
@@ -20,7 +20,7 @@ returns-then-is_err-clause-carried g c =
     let (b, has, goes, waits, short) = has_run (is_stopped c.args.hub.now) (buffers_of c.args.hub.now c.args.token) c.requires in
     carried_closed (IsAt {g = g.C.Chains} {h = g.M.Marks} g.C.Chains.held g.M.Marks.marked) c.args.token {A = Unit {0}} (Err Memory)
     (Some c.args.users.now) (Some c.note.new.self) c.args.hub.now c.closed.new.self c.args.store.now b has waits refl
-    c.closed.ensures.stands (λ s t e. sym (on_err _ c.note.result (sym c.is_err.ensures.value ∙ c.if-is_err.true) c.note.ensures.err s) ∙ e)
+    (c.closed.ensures.stands true) (λ s t e. sym (on_err _ c.note.result (sym c.is_err.ensures.value ∙ c.if-is_err.true) c.note.ensures.err s) ∙ e)
 
 pub returns-then-is_err-2-clause-carried : goal.returns-then-is_err-2-clause-carried
 returns-then-is_err-2-clause-carried g c =

@@ -1,4 +1,4 @@
-use Rattle.std.proofs.Common.{refl}
+use Rattle.std.proofs.Common.{true, refl}
 use Rattle.ssi_cli.proofs.Deeds.{finishes}
 use Rattle.ssi_cli.proofs.turns.end_if_done.Goals as goal
 
@@ -8,5 +8,5 @@ returns-clause-finished g c =
       refl,
       done.0,
       finishes c.args.hub.now c.closed.new.self c.args.token done.1 (c.has_more-due.ensures c.if-due.false).0
-          c.closed.ensures.stands,
+          (c.closed.ensures.stands true),
     )

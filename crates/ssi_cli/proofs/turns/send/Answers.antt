@@ -1,6 +1,6 @@
-use Rattle.std.proofs.Common.{◌≡◌, ◌<◌, ◌∙◌, ℕ, [], length, refl, sym, subst, pos_of_ne-zero, arith}
+use Rattle.std.proofs.Common.{true, ◌≡◌, ◌<◌, ◌∙◌, ℕ, [], length, refl, sym, subst, pos_of_ne-zero, arith}
 use Rattle.ssi_hub.specs.Clauses.Buffers.{first_unsent}
-use Rattle.ssi_hub.specs.Clauses.Calls.{Wrote}
+use Rattle.ssi_hub.specs.Clauses.Calls.{Closed, Wrote}
 use Rattle.ssi_hub.specs.Mirror.{buffers_of}
 use Rattle.ssi_cli.specs.Clauses.Turns.{Exchanged}
 use Rattle.ssi_cli.specs.Mirror.{stream_of}
@@ -43,7 +43,7 @@ returns-in-Never-clause-broken g c =
       breaks {S = g.row.S.Denot} g.S.Read.remaining g.S.Write.contents c.args.token (stream_of c.args.peer.now)
           (stream_of c.loop-count.peer) (stream_of c.write.new.self) c.args.hub.now c.loop-count.hub c.closed.new.self
           c.to_write.result.now c.to_write.ensures some c.loop-count.invariant.makes c.write.ensures.read
-          c.in-Never.ensures.bytes c.closed.ensures.stands,
+          c.in-Never.ensures.bytes (c.closed.ensures.stands true),
     )
 
 pub loop-count-preserved : goal.loop-count-preserved
@@ -56,11 +56,11 @@ loop-count-preserved g c =
       called = called_both c.args.hub.now c.loop-count.hub c.written.new.self c.loop-count.invariant.called
           (called_with c.loop-count.hub c.written.new.self
           (Wrote c.args.token (first_unsent c.in-Bytes.count (buffers_of c.loop-count.hub c.args.token))) (λ calls. refl)
-          c.written.ensures.written.stopped c.written.ensures.stands);
+          c.written.ensures.written.stopped (c.written.ensures.stands true));
       makes = sends {S = g.row.S.Denot} g.S.Read.remaining g.S.Write.contents c.args.token (stream_of c.args.peer.now)
           (stream_of c.loop-count.peer) (stream_of c.write.new.self) c.args.hub.now c.loop-count.hub c.written.new.self
           c.to_write.result.now c.in-Bytes.count c.to_write.ensures some c.loop-count.invariant.makes c.write.ensures.read
-          c.in-Bytes.ensures.bytes.1 c.written.ensures.stands;
+          c.in-Bytes.ensures.bytes.1 (c.written.ensures.stands true);
       input = c.write.ensures.input ∙ c.loop-count.invariant.input;
       steady = λ e. (c.write.ensures.steady (c.loop-count.invariant.steady e) some).0;
       apart = c.write.ensures.read ∙ c.loop-count.invariant.apart;
@@ -75,3 +75,9 @@ loop-count-preserved g c =
           let took : 0 < c.in-Bytes.count = (c.in-Bytes.ensures.taken (c.loop-count.invariant.going e) some).1 in
           omega (arith, took, c.loop-count.invariant.less e, c.in-Bytes.ensures.bytes.0, many);
     }
+
+pub returns-in-Never-clause-called : goal.returns-in-Never-clause-called
+returns-in-Never-clause-called g c =
+    called_both c.args.hub.now c.loop-count.hub c.closed.new.self c.loop-count.invariant.called
+    (called_with c.loop-count.hub c.closed.new.self (Closed c.args.token) (λ calls. refl) c.closed.ensures.closed.stopped
+    (c.closed.ensures.stands true))

@@ -1,14 +1,13 @@
 use Rattle.std.proofs.Common.{◌≡◌, ◌∙◌, Some, nat_eq, sym, ap}
 use Rattle.std.specs.Map.{lookup}
 use Rattle.std.specs.Cmp.Lexicographic.{pointwise}
-use Rattle.ssi_store.specs.Mirror.Stores.{IsAt}
 use Rattle.ssi_cli.specs.Mirror.{last_in}
 use Rattle.ssi_data.proofs.Aborts.{none_aborted, one_more, still_last}
 use Rattle.ssi_data.proofs.leaving.abort_each.Goals as goal
 
 pub loop-init : goal.loop-init
 loop-init g c = record {
-  aborts = none_aborted (IsAt {g = g.C.Chains} {h = g.M.Marks} g.C.Chains.held g.M.Marks.marked)
+  aborts = none_aborted g.T.ProtocolStore.keeps g.T.AnyStore.is_at
       (λ s. last_in c.args.users.now s ≡ Some c.args.token) c.args.server.now;
   forgets = λ s t e. e;
 }
@@ -29,7 +28,7 @@ returns-in_default-clause-forgets g c = λ s t e.
 
 pub loop-preserved : goal.loop-preserved
 loop-preserved g c = record {
-  aborts = one_more (IsAt {g = g.C.Chains} {h = g.M.Marks} g.C.Chains.held g.M.Marks.marked)
+  aborts = one_more g.T.ProtocolStore.keeps g.T.AnyStore.is_at
       (λ s. last_in c.args.users.now s ≡ Some c.args.token) c.args.server.now c.loop.server c.abort.new.server
       c.in-Some.session c.abort.result (c.loop.invariant.forgets c.in-Some.session c.args.token c.in-Some.ensures.user)
       c.loop.invariant.aborts c.abort.ensures.aborted;
@@ -42,14 +41,14 @@ loop-preserved g c = record {
 
 pub returns-in_err-abort-clause-aborts : goal.returns-in_err-abort-clause-aborts
 returns-in_err-abort-clause-aborts g c =
-    one_more (IsAt {g = g.C.Chains} {h = g.M.Marks} g.C.Chains.held g.M.Marks.marked)
+    one_more g.T.ProtocolStore.keeps g.T.AnyStore.is_at
     (λ s. last_in c.args.users.now s ≡ Some c.args.token) c.args.server.now c.loop.server c.abort.new.server
     c.in-Some.session c.abort.result (c.loop.invariant.forgets c.in-Some.session c.args.token c.in-Some.ensures.user)
     c.loop.invariant.aborts c.abort.ensures.aborted
 
 pub returns-then-not-branch-clause-aborts : goal.returns-then-not-branch-clause-aborts
 returns-then-not-branch-clause-aborts g c =
-    one_more (IsAt {g = g.C.Chains} {h = g.M.Marks} g.C.Chains.held g.M.Marks.marked)
+    one_more g.T.ProtocolStore.keeps g.T.AnyStore.is_at
     (λ s. last_in c.args.users.now s ≡ Some c.args.token) c.args.server.now c.loop.server c.abort.new.server
     c.in-Some.session c.abort.result (c.loop.invariant.forgets c.in-Some.session c.args.token c.in-Some.ensures.user)
     c.loop.invariant.aborts c.abort.ensures.aborted

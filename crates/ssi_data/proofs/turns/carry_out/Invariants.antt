@@ -2,7 +2,6 @@
 -- before each.
 use Rattle.std.proofs.Common.{◌≡◌, ◌<◌}
 use Rattle.std.specs.Prelude.{is_some}
-use Rattle.ssi_store.specs.Mirror.Stores.{IsAt}
 use Rattle.ssi_hub.specs.Mirror.{buffers_of, is_stopped}
 use Rattle.ssi_durable.specs.Mirror.Servers.{hub_of}
 use Rattle.ssi_cli.specs.Clauses.Turns.{MayRun}
@@ -12,7 +11,7 @@ use Rattle.ssi_data.proofs.turns.carry_out.Given as goal
 abbrev pub invariant-loop-count : goal.invariant-loop-count
 invariant-loop-count g l = record {
   none : l._count ≡ 0 → l.server ≡ l.initial.server;
-  carried : Carried (IsAt {g = g.C.Chains} {h = g.M.Marks} g.C.Chains.held g.M.Marks.marked) l.token
+  carried : Carried g.T.ProtocolStore.keeps g.T.AnyStore.is_at l.token
       (MayRun (is_stopped (hub_of l.initial.server)) (buffers_of (hub_of l.initial.server) l.token) × (0 < l._count))
       l.initial.users l.users l.initial.server l.server;
   table : is_some l.users ≡ is_some l.initial.users;

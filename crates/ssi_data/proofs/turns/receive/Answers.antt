@@ -1,5 +1,4 @@
 use Rattle.std.proofs.Common.{◌<◌, [], length, take, ℕ, refl, sym, subst, pos_of_ne-zero, length-take-le, inl, inr}
-use Rattle.ssi_store.specs.Mirror.Stores.{IsAt}
 use Rattle.ssi_hub.specs.Clauses.Calls.{Received, Closed}
 use Rattle.ssi_cli.specs.declared.closing.Closing.TheVariants.{Memory}
 use Rattle.ssi_cli.specs.Clauses.Turns.{Exchanged}
@@ -11,12 +10,13 @@ use Rattle.ssi_data.proofs.turns.receive.Goals as goal
 pub returns-clause-received : goal.returns-clause-received
 returns-clause-received g c =
     let bytes = take c.read-count.result c.read-count.new.room in
-    let is_at = IsAt {g = g.C.Chains} {h = g.M.Marks} g.C.Chains.held g.M.Marks.marked in
-    made_if_ok is_at c.hand_on.result c.args.server.now c.hand_on.new.server (Received c.args.token bytes) (Closed c.args.token)
+    let dumps = g.T.ProtocolStore.keeps in
+    let is_at = g.T.AnyStore.is_at in
+    made_if_ok dumps is_at c.hand_on.result c.args.server.now c.hand_on.new.server (Received c.args.token bytes) (Closed c.args.token)
     (λ _ made. Exchanged {S = g.row.S.Denot} g.S.Read.remaining g.S.Write.contents c.args.token
     (stream_of c.args.peer.now) (stream_of c.read-count.new.self) made [])
     c.hand_on.ensures.serves
-    (open_by is_at _ c.args.server.now c.args.token c.wants_read.result c.wants_read.ensures c.if-not-wants_read.false) refl
+    (open_by dumps is_at _ c.args.server.now c.args.token c.wants_read.result c.wants_read.ensures c.if-not-wants_read.false) refl
     (λ calls. exchanged_received {S = g.row.S.Denot} g.S.Read.remaining g.S.Write.contents c.args.token
     (stream_of c.args.peer.now) (stream_of c.read-count.new.self) bytes c.read-count.ensures.bytes
     c.read-count.ensures.written)
@@ -27,13 +27,14 @@ returns-clause-dropped g c =
     let some : 0 < length bytes =
     subst (λ (n : ℕ). 0 < n) (sym (length-take-le c.read-count.result c.read-count.new.room c.read-count.ensures.bound))
     (pos_of_ne-zero c.if-count-eq0.false) in
-    let is_at = IsAt {g = g.C.Chains} {h = g.M.Marks} g.C.Chains.held g.M.Marks.marked in
-    made_if_err is_at c.hand_on.result Memory c.args.server.now c.hand_on.new.server (Received c.args.token bytes)
+    let dumps = g.T.ProtocolStore.keeps in
+    let is_at = g.T.AnyStore.is_at in
+    made_if_err dumps is_at c.hand_on.result Memory c.args.server.now c.hand_on.new.server (Received c.args.token bytes)
     (Closed c.args.token)
     (λ _ made. IsDropped {S = g.row.S.Denot} g.S.Read.remaining g.S.Write.contents c.args.token
     (stream_of c.args.peer.now) (stream_of c.read-count.new.self) made)
     c.hand_on.ensures.serves
-    (open_by is_at _ c.args.server.now c.args.token c.wants_read.result c.wants_read.ensures c.if-not-wants_read.false) refl
+    (open_by dumps is_at _ c.args.server.now c.args.token c.wants_read.result c.wants_read.ensures c.if-not-wants_read.false) refl
     c.hand_on.ensures.memory
     (λ calls. record {
       closed = refl;
@@ -58,14 +59,14 @@ returns-clause-reads g c = λ steady may more.
 
 pub returns-then-not-is_readable-clause-received : goal.returns-then-not-is_readable-clause-received
 returns-then-not-is_readable-clause-received g c =
-    makes_none (IsAt {g = g.C.Chains} {h = g.M.Marks} g.C.Chains.held g.M.Marks.marked) c.args.server.now
+    makes_none g.T.ProtocolStore.keeps g.T.AnyStore.is_at c.args.server.now
     (λ _ made. Exchanged {S = g.row.S.Denot} g.S.Read.remaining g.S.Write.contents c.args.token
     (stream_of c.args.peer.now) (stream_of c.args.peer.now) made [])
     (λ calls. none_exchanged {S = g.row.S.Denot} g.S.Read.remaining g.S.Write.contents c.args.token (stream_of c.args.peer.now))
 
 pub returns-then-count-eq0-clause-received : goal.returns-then-count-eq0-clause-received
 returns-then-count-eq0-clause-received g c =
-    makes_none (IsAt {g = g.C.Chains} {h = g.M.Marks} g.C.Chains.held g.M.Marks.marked) c.args.server.now
+    makes_none g.T.ProtocolStore.keeps g.T.AnyStore.is_at c.args.server.now
     (λ _ made. Exchanged {S = g.row.S.Denot} g.S.Read.remaining g.S.Write.contents c.args.token
     (stream_of c.args.peer.now) (stream_of c.read-count.new.self) made [])
     (λ calls. nothing_exchanged {S = g.row.S.Denot} g.S.Read.remaining g.S.Write.contents c.args.token

@@ -1,5 +1,4 @@
 use Rattle.std.proofs.Common.{◌≡◌, ◌<◌, ◌∙◌, ℕ, List, [], length, refl, sym, ap, subst, pos_of_ne-zero, arith}
-use Rattle.ssi_store.specs.Mirror.Stores.{IsAt}
 use Rattle.ssi_cli.specs.Clauses.Turns.{Exchanged}
 use Rattle.ssi_cli.specs.Mirror.{stream_of}
 use Rattle.ssi_data.proofs.Makings.{none_exchanged, makes_none, is_sent, sends, sends_less, stays, breaks, some_bytes}
@@ -7,8 +6,9 @@ use Rattle.ssi_data.proofs.turns.send.Goals as goal
 
 pub loop-count-init : goal.loop-count-init
 loop-count-init g c =
-    let is_at = IsAt {g = g.C.Chains} {h = g.M.Marks} g.C.Chains.held g.M.Marks.marked in record {
-      makes = makes_none is_at c.args.server.now (λ _ made. Exchanged {S = g.row.S.Denot} g.S.Read.remaining g.S.Write.contents
+    let dumps = g.T.ProtocolStore.keeps in
+    let is_at = g.T.AnyStore.is_at in record {
+      makes = makes_none dumps is_at c.args.server.now (λ _ made. Exchanged {S = g.row.S.Denot} g.S.Read.remaining g.S.Write.contents
           c.args.token (stream_of c.args.peer.now) (stream_of c.args.peer.now) made [])
           (λ calls. none_exchanged {S = g.row.S.Denot} g.S.Read.remaining g.S.Write.contents c.args.token
           (stream_of c.args.peer.now));
@@ -18,27 +18,28 @@ loop-count-init g c =
       steady = λ e. e;
       apart = refl;
       counted = ap (λ (l : List ℕ). length l)
-          (is_sent is_at c.args.server.now c.args.token c.to_write-left.result.now c.to_write-left.ensures.unsettled
+          (is_sent dumps is_at c.args.server.now c.args.token c.to_write-left.result.now c.to_write-left.ensures.unsettled
           c.to_write-left.ensures.settled);
       fewer = λ e. omega (arith, c.to_write-left.type_inv.0);
     }
 
 pub returns-in-Later-clause-written : goal.returns-in-Later-clause-written
 returns-in-Later-clause-written g c =
-    stays (IsAt {g = g.C.Chains} {h = g.M.Marks} g.C.Chains.held g.M.Marks.marked) {S = g.row.S.Denot} g.S.Read.remaining
+    stays g.T.ProtocolStore.keeps g.T.AnyStore.is_at {S = g.row.S.Denot} g.S.Read.remaining
     g.S.Write.contents c.args.token (stream_of c.args.peer.now) (stream_of c.loop-count.peer) (stream_of c.write.new.self)
     c.args.server.now c.loop-count.server c.loop-count.invariant.makes c.write.ensures.read c.in-Later.ensures.bytes
 
 pub returns-in-Never-clause-broken : goal.returns-in-Never-clause-broken
 returns-in-Never-clause-broken g c =
-    let is_at = IsAt {g = g.C.Chains} {h = g.M.Marks} g.C.Chains.held g.M.Marks.marked in
-    let out = is_sent is_at c.loop-count.server c.args.token c.to_write.result.now c.to_write.ensures.unsettled
+    let dumps = g.T.ProtocolStore.keeps in
+    let is_at = g.T.AnyStore.is_at in
+    let out = is_sent dumps is_at c.loop-count.server c.args.token c.to_write.result.now c.to_write.ensures.unsettled
     c.to_write.ensures.settled in
     let some : 0 < length c.to_write.result.now =
     subst (λ (n : ℕ). 0 < n) (c.loop-count.invariant.counted ∙ sym (ap (λ (l : List ℕ). length l) out))
     (pos_of_ne-zero c.if-left-eq0.false) in (
       refl,
-      breaks is_at {S = g.row.S.Denot} g.S.Read.remaining g.S.Write.contents c.args.token (stream_of c.args.peer.now)
+      breaks dumps is_at {S = g.row.S.Denot} g.S.Read.remaining g.S.Write.contents c.args.token (stream_of c.args.peer.now)
           (stream_of c.loop-count.peer) (stream_of c.write.new.self) c.args.server.now c.loop-count.server c.closed.new.self
           c.to_write.result.now out some c.loop-count.invariant.makes c.write.ensures.read c.in-Never.ensures.bytes
           c.closed.ensures.serves,
@@ -46,14 +47,15 @@ returns-in-Never-clause-broken g c =
 
 pub loop-count-preserved : goal.loop-count-preserved
 loop-count-preserved g c =
-    let is_at = IsAt {g = g.C.Chains} {h = g.M.Marks} g.C.Chains.held g.M.Marks.marked in
-    let out = is_sent is_at c.loop-count.server c.args.token c.to_write.result.now c.to_write.ensures.unsettled
+    let dumps = g.T.ProtocolStore.keeps in
+    let is_at = g.T.AnyStore.is_at in
+    let out = is_sent dumps is_at c.loop-count.server c.args.token c.to_write.result.now c.to_write.ensures.unsettled
     c.to_write.ensures.settled in
     let many : length c.to_write.result.now ≡ c.loop-count.left =
     ap (λ (l : List ℕ). length l) out ∙ sym c.loop-count.invariant.counted in
     let some : 0 < length c.to_write.result.now = subst (λ (n : ℕ). 0 < n) (sym many) (pos_of_ne-zero c.if-left-eq0.false) in
     record {
-      makes = sends is_at {S = g.row.S.Denot} g.S.Read.remaining g.S.Write.contents c.args.token (stream_of c.args.peer.now)
+      makes = sends dumps is_at {S = g.row.S.Denot} g.S.Read.remaining g.S.Write.contents c.args.token (stream_of c.args.peer.now)
           (stream_of c.loop-count.peer) (stream_of c.write.new.self) c.args.server.now c.loop-count.server c.written.new.self
           c.to_write.result.now out some c.loop-count.invariant.makes c.in-Bytes.count c.write.ensures.read
           c.in-Bytes.ensures.bytes.1 c.written.ensures.serves;
@@ -63,7 +65,7 @@ loop-count-preserved g c =
       steady = λ e. (c.write.ensures.steady (c.loop-count.invariant.steady e) some).0;
       apart = c.write.ensures.read ∙ c.loop-count.invariant.apart;
       counted =
-          let less = sends_less is_at c.loop-count.server c.written.new.self c.args.token c.in-Bytes.count
+          let less = sends_less dumps is_at c.loop-count.server c.written.new.self c.args.token c.in-Bytes.count
           c.written.ensures.settled (λ e. (c.written.ensures.written e).own) in
           omega (arith, less, c.loop-count.invariant.counted);
       fewer = λ e.

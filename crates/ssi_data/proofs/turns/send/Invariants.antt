@@ -1,6 +1,5 @@
 -- What was written to the stream so far is what the server was told, and `left` bytes may still be sent.
 use Rattle.std.proofs.Common.{◌≡◌, ◌+◌, ◌≤◌, true, [], length}
-use Rattle.ssi_store.specs.Mirror.Stores.{IsAt}
 use Rattle.ssi_hub.specs.Mirror.{is_stopped}
 use Rattle.ssi_durable.specs.Mirror.Servers.{hub_of, is_settled}
 use Rattle.ssi_cli.specs.Clauses.Turns.{Exchanged}
@@ -11,7 +10,7 @@ use Rattle.ssi_data.proofs.turns.send.Given as goal
 
 abbrev pub invariant-loop-count : goal.invariant-loop-count
 invariant-loop-count g l = record {
-  makes : MakesQuietly (IsAt g.C.Chains.held g.M.Marks.marked) l.initial.server l.server (λ _ made.
+  makes : MakesQuietly g.T.ProtocolStore.keeps g.T.AnyStore.is_at l.initial.server l.server (λ _ made.
       Exchanged {S = g.row.S.Denot} g.S.Read.remaining g.S.Write.contents l.token
       (stream_of l.initial.peer) (stream_of l.peer) made []);
   stopped : is_stopped (hub_of l.server) ≡ is_stopped (hub_of l.initial.server);

@@ -1,7 +1,6 @@
 use Rattle.std.proofs.Common.{List, [], ◌≡◌, sym, ◌∙◌, ap, subst, append-nil, length}
 use Rattle.adya_keys.specs.Meaning.Keys.{Bytes}
 use Rattle.adya_text.specs.Meaning.Texts.{with_ends}
-use Rattle.ssi_store.specs.Mirror.Stores.{IsAt}
 use Rattle.ssi_log.specs.Machinery.Standing.{HasText}
 use Rattle.ssi_durable.specs.Meaning.Lines.{whole_lines}
 use Rattle.ssi_durable.specs.Clauses.Recovery.{IsReplayed}
@@ -13,7 +12,7 @@ returns-clause-loaded g c = λ lines plain is none at.
     let same : whole_lines c.args.text.now ≡ lines =
     ap whole_lines (is ∙ sym (append-nil (with_ends lines))) ∙ lines_are lines [] (from_all_plain lines plain) tt in
     let resumed = c.in_default-resume.ensures.text none in (
-      subst (λ (ls : List Bytes). IsReplayed (IsAt g.C.Chains.held g.M.Marks.marked) c.args.number ls c.replay.new.store) same
+      subst (λ (ls : List Bytes). IsReplayed g.S.AnyStore.is_at c.args.number ls c.replay.new.store) same
           (c.in_default.ensures.replayed at),
       record {
         plain = plain;

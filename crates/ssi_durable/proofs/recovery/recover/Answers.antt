@@ -1,7 +1,6 @@
 use Rattle.std.proofs.Common.{[], ◌≡◌, ◌+◌, length, take, sym, ◌∙◌, ap, subst, arith}
 use Rattle.adya_keys.specs.Meaning.Keys.{Bytes}
 use Rattle.adya_text.specs.Meaning.Texts.{with_ends}
-use Rattle.ssi_store.specs.Mirror.Stores.{IsAt}
 use Rattle.ssi_log.specs.Machinery.Standing.{HasText}
 use Rattle.ssi_log.specs.Meaning.Texts.{text_of}
 use Rattle.ssi_durable.specs.Meaning.Lines.{loads_len, whole_lines}
@@ -89,7 +88,7 @@ returns-clause-recovered g c = λ at.
     let resumed = c.in_default.ensures.text (whole_none items (take n c.deref-2.result.now) front c.in-Ok.ensures.plain) in (
       items,
       λ clean. (c.in-Ok.ensures.text (c.resume.ensures.clean clean)).0,
-      subst (λ (l : Bytes). IsReplayed (IsAt g.C.Chains.held g.M.Marks.marked) c.args.number (whole_lines l) c.replay.new.store)
+      subst (λ (l : Bytes). IsReplayed g.S.AnyStore.is_at c.args.number (whole_lines l) c.replay.new.store)
           same (c.in-Ok-replay.ensures.replayed at),
       record {
         plain = all_plain (whole_lines items) (falls [] items tt).lines;

@@ -1,4 +1,4 @@
-use Rattle.std.proofs.Common.{◌≡◌, ◌++◌, ◌∷◌, [], ◌∙◌, List, ℕ, sym, ap}
+use Rattle.std.proofs.Common.{◌++◌, ◌∷◌, [], ◌∙◌, List, ℕ, ap}
 use Rattle.ssi_hub.specs.Clauses.Clipping.{clipped_after}
 use Rattle.ssi_hub.proofs.Clips.{clips_line, keeps_line, grows_more}
 use Rattle.ssi_hub.proofs.inbox.add_clipped.Goals as goal

@@ -1,4 +1,4 @@
-use Rattle.std.proofs.Common.{◌≡◌, ◌++◌, ◌∙◌, List, ℕ, ◌+◌, ◌-◌, ap, take, length, arith}
+use Rattle.std.proofs.Common.{◌≡◌, ◌++◌, ◌∙◌, List, ℕ, ◌-◌, ap, take, length, arith}
 use Rattle.std.specs.Prelude.{min}
 use Rattle.ssi_hub.proofs.Clips.{plain_part, plain_kept}
 use Rattle.ssi_hub.proofs.inbox.add_part.Goals as goal

@@ -1,6 +1,5 @@
 use Rattle.std.proofs.Common.{refl, sym}
 use Rattle.ssi_store.specs.Mirror.Commands.{command_of, answer_of}
-use Rattle.ssi_store.specs.Mirror.Stores.{IsAt}
 use Rattle.ssi_line.proofs.Counted.{logged}
 use Rattle.ssi_line.proofs.Drafts.{said}
 use Rattle.ssi_line.proofs.carrying.carry_out_command.Goals as goal
@@ -18,7 +17,7 @@ returns-clause-carried g c =
       λ course at. ((c.apply-reply.ensures.answers course at, tt), c.apply-reply.ensures.stands course at),
       λ course at. (
         c.apply-reply.ensures.answers course at,
-        logged (IsAt {g = g.C.Chains} {h = g.M.Marks} g.C.Chains.held g.M.Marks.marked) c.apply-reply.new.self course
+        logged g.S.AnyStore.is_at c.apply-reply.new.self course
             (command_of c.args.command) answer (c.stats_change_nothing.ensures course)
             (c.refusals_change_nothing.ensures course) (c.apply-reply.ensures.stands course at),
       ),

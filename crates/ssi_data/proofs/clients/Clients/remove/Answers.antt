@@ -1,21 +1,20 @@
 use Rattle.std.proofs.Common.{◌≡◌, true, Err}
 use Rattle.ssi_durable.specs.Mirror.Servers.{has_failed}
-use Rattle.ssi_store.specs.Mirror.Stores.{IsAt}
 use Rattle.ssi_data.proofs.Rounds.{aborts, failed_still, fails, unseen}
 use Rattle.ssi_data.proofs.clients.Clients.remove.Goals as goal
 
 pub returns-in-Ok-clause-on : goal.returns-in-Ok-clause-on
 returns-in-Ok-clause-on g c =
-    aborts (IsAt {g = g.C.Chains} {h = g.M.Marks} g.C.Chains.held g.M.Marks.marked) c.aborts_are_deeds.ensures c.args.token
+    aborts g.T.ProtocolStore.keeps g.T.AnyStore.is_at c.aborts_are_deeds.ensures c.args.token
     c.args.self.now.users c.abort_all.new.users c.args.self.now.server c.abort_all.new.server c.abort_all.ensures.table
     c.abort_all.ensures.forgets c.requires c.abort_all.ensures.aborts
 
 pub returns-in-Err-clause-on : goal.returns-in-Err-clause-on
 returns-in-Err-clause-on g c =
-    unseen (IsAt {g = g.C.Chains} {h = g.M.Marks} g.C.Chains.held g.M.Marks.marked) c.args.self.now.users c.abort_all.new.users
+    unseen g.T.ProtocolStore.keeps g.T.AnyStore.is_at c.args.self.now.users c.abort_all.new.users
     c.unless_full.new.self.users c.args.self.now.server c.abort_all.new.server c.unless_full.new.self.server
     c.unless_full.ensures.users c.unless_full.ensures.server
-    (aborts (IsAt {g = g.C.Chains} {h = g.M.Marks} g.C.Chains.held g.M.Marks.marked) c.aborts_are_deeds.ensures c.args.token
+    (aborts g.T.ProtocolStore.keeps g.T.AnyStore.is_at c.aborts_are_deeds.ensures c.args.token
     c.args.self.now.users c.abort_all.new.users c.args.self.now.server c.abort_all.new.server c.abort_all.ensures.table
     c.abort_all.ensures.forgets c.requires c.abort_all.ensures.aborts)
 

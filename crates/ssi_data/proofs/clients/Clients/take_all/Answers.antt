@@ -1,19 +1,18 @@
-use Rattle.ssi_store.specs.Mirror.Stores.{IsAt}
 use Rattle.ssi_data.proofs.Rounds.{stays, both}
 use Rattle.ssi_data.proofs.clients.Clients.take_all.Goals as goal
 
 pub loop-event-init : goal.loop-event-init
 loop-event-init g c =
-    stays (IsAt {g = g.C.Chains} {h = g.M.Marks} g.C.Chains.held g.M.Marks.marked) c.args.self.now.users c.args.self.now.server
+    stays g.T.ProtocolStore.keeps g.T.AnyStore.is_at c.args.self.now.users c.args.self.now.server
 
 pub loop-event-preserved : goal.loop-event-preserved
 loop-event-preserved g c =
-    both (IsAt {g = g.C.Chains} {h = g.M.Marks} g.C.Chains.held g.M.Marks.marked) c.args.self.now.users c.loop-event.self.users c.take.new.self.users
+    both g.T.ProtocolStore.keeps g.T.AnyStore.is_at c.args.self.now.users c.loop-event.self.users c.take.new.self.users
     c.args.self.now.server c.loop-event.self.server c.take.new.self.server c.loop-event.invariant c.take.ensures.on
 
 pub returns-in_err-take-clause-on : goal.returns-in_err-take-clause-on
 returns-in_err-take-clause-on g c =
-    both (IsAt {g = g.C.Chains} {h = g.M.Marks} g.C.Chains.held g.M.Marks.marked) c.args.self.now.users c.loop-event.self.users c.take.new.self.users
+    both g.T.ProtocolStore.keeps g.T.AnyStore.is_at c.args.self.now.users c.loop-event.self.users c.take.new.self.users
     c.args.self.now.server c.loop-event.self.server c.take.new.self.server c.loop-event.invariant c.take.ensures.on
 
 pub returns-clause-on : goal.returns-clause-on

@@ -1,20 +1,19 @@
 use Rattle.std.proofs.Common.{◌≡◌, true}
 use Rattle.ssi_durable.specs.Mirror.Servers.{has_failed}
-use Rattle.ssi_store.specs.Mirror.Stores.{IsAt}
 use Rattle.ssi_data.proofs.Rounds.{both, carries, failed_still, fails, quietly_either, unseen}
 use Rattle.ssi_data.proofs.clients.Clients.take_at.Goals as goal
 
 pub returns-clause-on : goal.returns-clause-on
 returns-clause-on g c =
-    unseen (IsAt {g = g.C.Chains} {h = g.M.Marks} g.C.Chains.held g.M.Marks.marked) c.args.self.now.users
+    unseen g.T.ProtocolStore.keeps g.T.AnyStore.is_at c.args.self.now.users
     c.carry_out-carried.new.users c.unless_full.new.self.users c.args.self.now.server c.carry_out-carried.new.server
     c.unless_full.new.self.server c.unless_full.ensures.users c.unless_full.ensures.server
-    (both (IsAt {g = g.C.Chains} {h = g.M.Marks} g.C.Chains.held g.M.Marks.marked) c.args.self.now.users c.args.self.now.users
+    (both g.T.ProtocolStore.keeps g.T.AnyStore.is_at c.args.self.now.users c.args.self.now.users
     c.carry_out-carried.new.users c.args.self.now.server c.receive.new.server c.carry_out-carried.new.server
-    (quietly_either (IsAt {g = g.C.Chains} {h = g.M.Marks} g.C.Chains.held g.M.Marks.marked) {A = Unit {0}}
+    (quietly_either g.T.ProtocolStore.keeps g.T.AnyStore.is_at {A = Unit {0}}
     c.calls_are_deeds.ensures.done c.calls_are_deeds.ensures.quiet c.receive.result c.args.self.now.users
     c.args.self.now.server c.receive.new.server _ _ _ c.receive.ensures.received c.receive.ensures.dropped)
-    (carries (IsAt {g = g.C.Chains} {h = g.M.Marks} g.C.Chains.held g.M.Marks.marked) c.calls_are_deeds.ensures.done c.in-Some.token
+    (carries g.T.ProtocolStore.keeps g.T.AnyStore.is_at c.calls_are_deeds.ensures.done c.in-Some.token
     c.args.self.now.users c.carry_out-carried.new.users c.receive.new.server c.carry_out-carried.new.server _
     c.carry_out-carried.ensures.table c.carry_out-carried.ensures.carried))
 

@@ -2,13 +2,12 @@
 use Rattle.std.proofs.Common.{◌≡◌}
 use Rattle.ssi_hub.specs.Mirror.{is_stopped}
 use Rattle.ssi_durable.specs.Mirror.Servers.{hub_of, is_settled}
-use Rattle.ssi_store.specs.Mirror.Stores.{IsAt}
 use Rattle.ssi_data.specs.Mirror.{GoOn, server_of}
 use Rattle.ssi_data.proofs.clients.Clients.write_all.Given as goal
 
 abbrev pub invariant-loop-index : goal.invariant-loop-index
 invariant-loop-index g l = record {
-  on : GoOn (IsAt {g = g.C.Chains} {h = g.M.Marks} g.C.Chains.held g.M.Marks.marked) l.initial.self l.self;
+  on : GoOn g.T.ProtocolStore.keeps g.T.AnyStore.is_at l.initial.self l.self;
   stopped : is_stopped (hub_of (server_of l.self)) ≡ is_stopped (hub_of (server_of l.initial.self));
   settled : is_settled (server_of l.self) ≡ is_settled (server_of l.initial.self);
 }

@@ -4,7 +4,6 @@ use Rattle.std.specs.List.{All}
 use Rattle.adya_keys.specs.Meaning.Keys.{Bytes}
 use Rattle.ssi_hub.specs.Clauses.Outcomes.{lost_by}
 use Rattle.ssi_hub.specs.Mirror.{buffers_of, is_stopped}
-use Rattle.ssi_store.specs.Mirror.Stores.{IsAt}
 use Rattle.ssi_durable.specs.Meaning.Logs.{logged, released}
 use Rattle.ssi_durable.specs.Mirror.Journals.{Keeps}
 use Rattle.ssi_durable.proofs.Stepping.{command_of, plain_of, clean_of}
@@ -19,7 +18,7 @@ returns-then-not-carried-clause-some g c = λ n began calls was.
       line,
       step,
       is,
-      line_served (IsAt g.C.Chains.held g.M.Marks.marked) n began self now calls (lost_by c.in-Some.carried.outcome) c.args.token line step
+      line_served g.S.ProtocolStore.keeps g.S.AnyStore.is_at n began self now calls (lost_by c.in-Some.carried.outcome) c.args.token line step
           c.commands_are_words.ensures.lettered was is.made is.logged stands more
           (not_counted self.journal (began.lines ++ released was.since) (began.lines ++ logged was.since) line step (is.counted ∙ was_false c.in-Some.carried.counted c.if-not-carried.true)
           was.keeps),
@@ -31,7 +30,7 @@ returns-clause-some g c = λ n began calls was.
     let now = record self { hub = c.step.new.self; store = c.step.new.store; noted = c.note.new.to; journal = c.add.new.self } in
     let (line, step, is, stands, more) = c.in-Some.ensures.stands calls was.stands in
     let counted = is.counted ∙ was_true c.in-Some.carried.counted c.if-not-carried.false in
-    let asked = command_of line step counted is.made in
+    let asked = command_of g.S.ProtocolStore.keeps line step counted is.made in
     let printed = c.commands_are_words.ensures.printed asked.0 line asked.1 in
     let ready = ready_has (is_stopped self.hub) (buffers_of self.hub c.args.token) (sym c.in-Some.ensures.when) in
     let (front, rest, plain, waits, kept) = c.note.ensures ready.0 ready.1 ready.2 in
@@ -41,7 +40,7 @@ returns-clause-some g c = λ n began calls was.
       line,
       step,
       is,
-      line_served (IsAt g.C.Chains.held g.M.Marks.marked) n began self now calls (lost_by c.in-Some.carried.outcome) c.args.token line step
+      line_served g.S.ProtocolStore.keeps g.S.AnyStore.is_at n began self now calls (lost_by c.in-Some.carried.outcome) c.args.token line step
           c.commands_are_words.ensures.lettered was is.made is.logged stands more
           (is_counted c.add.new.self (began.lines ++ released was.since) (began.lines ++ logged was.since) line step counted
           (subst (λ (b : Bytes). Keeps c.add.new.self (began.lines ++ released was.since) ((began.lines ++ logged was.since) ++ (b ∷ []))) bytes

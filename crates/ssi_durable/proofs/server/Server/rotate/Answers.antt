@@ -1,5 +1,4 @@
 use Rattle.std.proofs.Common.{◌++◌}
-use Rattle.ssi_store.specs.Mirror.Stores.{IsAt}
 use Rattle.ssi_durable.specs.Meaning.Logs.{logged, released}
 use Rattle.ssi_durable.proofs.Betweens.{all_between}
 use Rattle.ssi_durable.proofs.Serving.{begins}
@@ -8,7 +7,7 @@ use Rattle.ssi_durable.proofs.server.Server.rotate.Goals as goal
 pub returns-clause-serves : goal.returns-clause-serves
 returns-clause-serves g c = λ n next began lines calls was replayed all.
     let now = record c.args.self.now { store = c.args.store; journal = c.go_on_with.new.self } in
-    begins (IsAt g.C.Chains.held g.M.Marks.marked) next lines now calls replayed was.stands was.told (c.go_on_with.ensures.keeps lines all)
+    begins g.S.ProtocolStore.keeps g.S.AnyStore.is_at next lines now calls replayed was.stands was.told (c.go_on_with.ensures.keeps lines all)
 
 pub returns-clause-left : goal.returns-clause-left
 returns-clause-left g c = λ n began calls file was left. (

@@ -2,7 +2,6 @@ use Rattle.std.proofs.Common.{subst}
 use Rattle.ssi_hub.specs.declared.hub.Hub.{Hub}
 use Rattle.ssi_hub.specs.Clauses.Stepping.{IsLineStep}
 use Rattle.ssi_hub.specs.Mirror.{buffers_of}
-use Rattle.ssi_store.specs.Mirror.Stores.{IsAt}
 use Rattle.ssi_durable.proofs.Serving.{option_by}
 use Rattle.ssi_durable.proofs.server.Server.step.Goals as goal
 
@@ -14,9 +13,9 @@ returns-clause-serves g c = λ n began calls was.
     let (line, step, is, serves) = f n began calls mid in (
       line,
       step,
-      subst (λ (h : Hub). IsLineStep (IsAt g.C.Chains.held g.M.Marks.marked) (buffers_of h c.args.token) c.args.self.now.store carried
+      subst (λ (h : Hub). IsLineStep g.S.ProtocolStore.keeps g.S.AnyStore.is_at (buffers_of h c.args.token) c.args.self.now.store carried
           line step c.carry_out.new.self.store) c.make_room.ensures.hub
-          (subst (λ (s : _). IsLineStep (IsAt g.C.Chains.held g.M.Marks.marked) (buffers_of c.make_room.new.self.hub c.args.token) s
+          (subst (λ (s : _). IsLineStep g.S.ProtocolStore.keeps g.S.AnyStore.is_at (buffers_of c.make_room.new.self.hub c.args.token) s
           carried line step c.carry_out.new.self.store) c.make_room.ensures.store is),
       serves,
     ))

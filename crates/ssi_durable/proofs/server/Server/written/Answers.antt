@@ -2,7 +2,6 @@ use Rattle.std.proofs.Common.{Bool, cond, refl, sym, ◌∙◌, subst, ◌++◌}
 use Rattle.ssi_hub.specs.Clauses.Buffers.{first_unsent}
 use Rattle.ssi_hub.specs.Clauses.Calls.{Wrote, with_call}
 use Rattle.ssi_hub.specs.Mirror.{buffers_of}
-use Rattle.ssi_store.specs.Mirror.Stores.{IsAt}
 use Rattle.ssi_durable.specs.Meaning.Logs.{logged, released}
 use Rattle.ssi_durable.specs.Mirror.Servers.{Serves}
 use Rattle.ssi_durable.proofs.Serving.{written}
@@ -14,8 +13,8 @@ returns-then-is_settled-clause-serves g c = λ n began calls was.
     let now = record self { hub = c.written.new.self } in
     let bytes = first_unsent c.args.count (buffers_of self.hub c.args.token) in
     let settled = sym c.is_settled.ensures ∙ c.if-is_settled.true in
-    subst (λ (b : Bool). Serves (IsAt g.C.Chains.held g.M.Marks.marked) n began now (cond b (with_call (Wrote c.args.token bytes) calls) calls))
+    subst (λ (b : Bool). Serves g.S.ProtocolStore.keeps g.S.AnyStore.is_at n began now (cond b (with_call (Wrote c.args.token bytes) calls) calls))
     (sym settled)
-    (written (IsAt g.C.Chains.held g.M.Marks.marked) n began self now calls c.args.token bytes was
-    (c.written.ensures.stands calls was.stands) refl refl
+    (written g.S.ProtocolStore.keeps g.S.AnyStore.is_at n began self now calls c.args.token bytes was
+    (c.written.ensures.stands g.S.ProtocolStore.keeps calls was.stands) refl refl
     (c.settled_lines_are_sure.ensures settled (began.lines ++ released was.since) (began.lines ++ logged was.since) was.keeps))

@@ -1,5 +1,4 @@
 use Rattle.std.proofs.Common.{◌≤◌, ◌<◌, ap, sym, ◌∙◌, length, refl, arith}
-use Rattle.ssi_store.specs.Mirror.Stores.{IsAt}
 use Rattle.ssi_hub.specs.Clauses.Buffers.{Buffers}
 use Rattle.ssi_hub.specs.Clauses.Stepping.{is_ready}
 use Rattle.ssi_hub.proofs.Clips.{plain_has_none}
@@ -28,7 +27,7 @@ pub returns-clause-some : goal.returns-clause-some
 returns-clause-some g c = λ bytes waits.
     let (plain, (more, cut)) = c.in-Some.ensures.some in
     let short : length c.self.inside.unsent ≤ 65536 = omega (arith, c.if-len-gt-MOST_UNSENT.false, c.len.ensures) in
-    stepped (IsAt {g = g.C.Chains} {h = g.M.Marks} g.C.Chains.held g.M.Marks.marked) c.args.self.now
+    stepped g.S.ProtocolStore.keeps g.S.AnyStore.is_at c.args.self.now
     (record { waiting = c.self.inside.inbox; unsent = c.self.inside.unsent }) bytes c.in-Some.line.now more
     c.pass.new.self c.reply-carried.new.unsent (length c.in-Some.line.now) c.args.store.now c.reply-carried.new.store
     c.reply-carried.result c.self.view_is waits plain cut refl c.pass.ensures short c.reply-carried.ensures

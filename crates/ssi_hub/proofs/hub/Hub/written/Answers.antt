@@ -3,6 +3,6 @@ use Rattle.ssi_hub.proofs.Standing.{wrote_so}
 use Rattle.ssi_hub.proofs.hub.Hub.written.Goals as goal
 
 pub returns-clause-stands : goal.returns-clause-stands
-returns-clause-stands c = λ calls s.
-    wrote_so (buffers_in c.args.self.now.connections) (buffers_in c.written.new.self) c.args.self.now.next
+returns-clause-stands c = λ keeps calls s.
+    wrote_so keeps (buffers_in c.args.self.now.connections) (buffers_in c.written.new.self) c.args.self.now.next
     c.args.self.now.stopped c.args.token c.args.count calls s c.written.ensures

@@ -1,5 +1,4 @@
-use Rattle.std.proofs.Common.{◌≡◌, ◌++◌, ◌∷◌, ◌∙◌, List, ℕ, ap, drop, sym, subst, length}
-use Rattle.adya_line.specs.Meaning.Lines.{IsPlain}
+use Rattle.std.proofs.Common.{◌∙◌, List, ℕ, ap, drop}
 use Rattle.ssi_hub.proofs.Clips.{pass_keeps}
 use Rattle.ssi_hub.proofs.inbox.Inbox.pass.Goals as goal
 
