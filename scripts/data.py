@@ -47,10 +47,11 @@ def send_all(server, lines, chance):
 
 
 def try_lines(name, lines, ends, chance):
-    """The lines up to the first `stop`, but `dump`, by so many servers more than one."""
-    lines = [line for line in lines if line != "dump"]
+    """The lines up to the first `stop`, by so many servers more than one. `dump` is no line of the protocol here."""
     lines = lines[: lines.index("stop") + 1] if "stop" in lines else [*lines, "stop"]
-    wanted, _, verdict = scripted(lines)
+    replies, _, verdict = scripted([line for line in lines if line != "dump"])
+    rest = iter(replies)
+    wanted = ["? syntax" if line == "dump" else next(rest) for line in lines]
     places = sorted(chance.randint(0, len(lines) - 1) for _ in range(ends))
     with home() as it:
         got = []
