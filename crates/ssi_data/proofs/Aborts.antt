@@ -1,164 +1,63 @@
 -- Aborts of sessions whose last user is gone, and of those that have a transaction.
-use Rattle.std.proofs.Common.{◌≡◌, ℕ, ◌<◌, Bool, true, false, cond, List, [], ◌∷◌, ◌++◌, Option, Some, None, refl, sym, ap, subst, ◌∙◌, append_assoc, inl, inr, Result, Ok, Err, IfOk, arith}
-use Rattle.std.specs.Prelude.{◌==◌, not, ◌&&◌, ◌||◌, nat_eq, is_err, is_some, IsTrue, MatchResult, MatchOption}
-use Rattle.std.specs.List.{AllByRecursion}
+use Rattle.std.proofs.Common.{◌≡◌, ℕ, ◌<◌, ◌⊎◌, Bool, true, false, cond, List, [], ◌∷◌, ◌++◌, length, Option, Some, None, refl, sym, subst, ◌∙◌, append_assoc, Result, Ok, Err, IfOk}
+use Rattle.std.specs.Prelude.{nat_eq, is_err, is_some, IsTrue, IfNone, IfSome, MatchResult}
 use Rattle.std.specs.Cmp.Lexicographic.{pointwise}
-use Rattle.std.proofs.lemmas.Bool.{eq-eqb, false≢true}
+use Rattle.std.proofs.lemmas.Bool.{false≢true}
 use Rattle.std.proofs.lemmas.Option.{none-some}
 use Rattle.sqlite_disk.specs.declared.Disk.{Ghosts}
 use Rattle.ssi_store.specs.Meaning.Courses.{Course, Abort, txn_in}
 use Rattle.ssi_line.specs.Meaning.Spelling.{command_text}
-use Rattle.ssi_line.specs.Meaning.Steps.{Step}
 use Rattle.ssi_hub.specs.declared.outcome.CarriedLine.{CarriedLine}
-use Rattle.ssi_hub.specs.Clauses.Calls.{Call, Opened, Received, Ran, Closed, token_of, is_open, with_call, with_run}
-use Rattle.ssi_hub.specs.Clauses.Outcomes.{lost_by}
-use Rattle.ssi_hub.specs.Mirror.{next_token}
+use Rattle.ssi_hub.specs.Clauses.Calls.{Call, sent_by, all_steps}
 use Rattle.ssi_durable.specs.declared.server.Server.{Server}
 use Rattle.ssi_durable.specs.Clauses.Serving.{Began}
-use Rattle.ssi_durable.specs.Mirror.Servers.{Serves, HasStepped, hub_of, store_of}
+use Rattle.ssi_durable.specs.Mirror.Servers.{Serves, store_of}
 use Rattle.ssi_cli.specs.Clauses.Leaving.{IsAbort, abort_calls}
-use Rattle.ssi_data.specs.Clauses.Calls.{Makes}
+use Rattle.ssi_data.specs.Clauses.Calls.{IsOwn, Makes, MakesQuietly}
 use Rattle.ssi_data.specs.Clauses.Leaving.{HasAborted, HasTried}
 use Rattle.ssi_data.specs.Clauses.Aborting.{HadTransaction, HasAbortedOpen, HasCarriedOutAborts}
 
-own : (t : ℕ) → (t == t) ≡ true
-own t = eq-eqb t t refl
-
-open_now : (t : ℕ) (calls : List Call) → is_open t (Opened t ∷ calls) ≡ true
-open_now t calls = ap (λ b. b || is_open t calls) (own t)
-
--- a line of an open connection was carried out, and it was closed
-run_closed : (lost : Bool) (t : ℕ) (lines : List (List ℕ)) (steps : List Step) (calls : List Call)
-    → is_open t calls ≡ true
-    → with_call (Closed t) (with_run lost t lines steps calls) ≡ Closed t ∷ Ran t lines steps ∷ calls
-run_closed lost t lines steps calls opened = by_loss lost
-  where
-    ran : with_call (Ran t lines steps) calls ≡ Ran t lines steps ∷ calls
-    ran = ap (λ o. cond o (Ran t lines steps ∷ calls) calls) opened
-
-    once : with_call (Closed t) (with_call (Ran t lines steps) calls) ≡ Closed t ∷ Ran t lines steps ∷ calls
-    once =
-        ap (with_call (Closed t)) ran
-        ∙ ap (λ o. cond o (Closed t ∷ Ran t lines steps ∷ calls) (Ran t lines steps ∷ calls)) opened
-
-    gone : is_open t (Closed t ∷ Ran t lines steps ∷ calls) ≡ false
-    gone = ap (λ b. not b && is_open t calls) (own t)
-
-    by_loss : (o : Bool) → with_call (Closed t) (with_run o t lines steps calls) ≡ Closed t ∷ Ran t lines steps ∷ calls
-    by_loss false = once
-    by_loss true =
-        ap (with_call (Closed t)) once
-        ∙ ap (λ o. cond o (Closed t ∷ Closed t ∷ Ran t lines steps ∷ calls) (Closed t ∷ Ran t lines steps ∷ calls)) gone
+-- the own line is `abort` of the session
+as_abort : (session bytes : List ℕ) (made calls : List Call) → bytes ≡ command_text (Abort session) ++ (10 ∷ [])
+    → IsOwn bytes made calls → IsAbort session made calls
+as_abort session bytes made calls is o = record {
+  token = o.token;
+  new = o.new;
+  own = o.own;
+  sent = subst (λ (b : List ℕ). (sent_by o.token made ≡ []) ⊎ (sent_by o.token made ≡ b)) is o.sent;
+}
 
 module _ {T D : Type 0} {disk : Ghosts D} (dumps : Bool) (is_at : T → Course → Type 0) where
   -- the result says that nothing was carried out
-  pub not_done : {E : Type 0} (old new : Server T D disk) (session : List ℕ) (r : Result Bool E)
-      → IfOk r (λ done. IsTrue done → ⊥) → Makes dumps is_at old new (λ calls made. IsAbort session made calls)
+  pub not_done : {E : Type 0} (old new : Server T D disk) (session bytes : List ℕ) (r : Result Bool E)
+      → bytes ≡ command_text (Abort session) ++ (10 ∷ []) → IfOk r (λ done. IsTrue done → ⊥)
+      → MakesQuietly dumps is_at old new (λ calls made. IsOwn bytes made calls)
       → Makes dumps is_at old new (λ calls made. HasTried session r calls made)
-  not_done old new session (Ok done) none makes = λ n began calls s.
-      let (made, serves, is) = makes n began calls s in
-      (made, serves, record { abort = is; done = λ h. absurd (none h) })
-  not_done old new session (Err e) none makes = λ n began calls s.
-      let (made, serves, is) = makes n began calls s in (made, serves, record { abort = is; done = tt })
+  not_done old new session bytes (Ok done) line none makes = λ n began calls s.
+      let (made, serves, quiet, is) = makes n began calls s in
+      (made, serves, record { abort = as_abort session bytes made calls line is; done = λ h. absurd (none h) })
+  not_done old new session bytes (Err e) line none makes = λ n began calls s.
+      let (made, serves, quiet, is) = makes n began calls s in
+      (made, serves, record { abort = as_abort session bytes made calls line is; done = tt })
 
-  -- a session of which nothing is carried out
-  pub none_opened : (old new : Server T D disk) (session : List ℕ)
-      → ((n : ℕ) (began : Began) (calls : List Call) → Serves dumps is_at n began old calls → Serves dumps is_at n began new calls)
-      → Makes dumps is_at old new (λ calls made. IsAbort session made calls)
-  none_opened old new session same = λ n began calls s. (
-    [],
-    same n began calls s,
-    record { token = next_token (hub_of old); new = s.stands.given; own = tt; sent = inl refl },
-  )
+  -- its line was carried out
+  pub is_done : {E : Type 0} {done : Bool} (old new : Server T D disk) (session bytes : List ℕ)
+      → bytes ≡ command_text (Abort session) ++ (10 ∷ [])
+      → Makes dumps is_at old new (λ calls made. IsOwn bytes made calls × (0 < length (all_steps made)))
+      → Makes dumps is_at old new (λ calls made. HasTried {E = E} session (Ok done) calls made)
+  is_done old new session bytes line makes = λ n began calls s.
+      let (made, serves, (is, some)) = makes n began calls s in
+      (made, serves, record { abort = as_abort session bytes made calls line is; done = λ h. some })
 
-  -- it was opened, and closed before anything was carried out
-  pub only_opened : (old opened new : Server T D disk) (session : List ℕ) (t : ℕ) → t ≡ next_token (hub_of old)
-      → ((n : ℕ) (began : Began) (calls : List Call) → Serves dumps is_at n began old calls
-      → Serves dumps is_at n began opened (Opened t ∷ calls))
-      → ((n : ℕ) (began : Began) (calls : List Call) → Serves dumps is_at n began opened calls
-      → Serves dumps is_at n began new (with_call (Closed t) calls))
-      → Makes dumps is_at old new (λ calls made. IsAbort session made calls)
-  only_opened old opened new session t is opens closes = λ n began calls s. (
-    Closed t ∷ Opened t ∷ [],
-    subst (λ (l : List Call). Serves dumps is_at n began new l)
-        (ap (λ o. cond o (Closed t ∷ Opened t ∷ calls) (Opened t ∷ calls)) (open_now t calls))
-        (closes n began (Opened t ∷ calls) (opens n began calls s)),
-    record {
-      token = t;
-      new = subst (λ m. AllByRecursion (λ c. token_of c < m) calls) (sym is) s.stands.given;
-      own = (refl, (refl, tt));
-      sent = inl refl;
-    },
-  )
-
-  module _ (old opened sent stepped new : Server T D disk) (session line : List ℕ) (t : ℕ)
-      (line_is : line ≡ command_text (Abort session) ++ (10 ∷ [])) (is : t ≡ next_token (hub_of old))
-      (opens : (n : ℕ) (began : Began) (calls : List Call) → Serves dumps is_at n began old calls
-      → Serves dumps is_at n began opened (Opened t ∷ calls))
-      (sends : (n : ℕ) (began : Began) (calls : List Call) → Serves dumps is_at n began opened calls
-      → Serves dumps is_at n began sent (with_call (Received t line) calls))
-      (closes : (n : ℕ) (began : Began) (calls : List Call) → Serves dumps is_at n began stepped calls
-      → Serves dumps is_at n began new (with_call (Closed t) calls)) where
-    received : (n : ℕ) (began : Began) (calls : List Call) → Serves dumps is_at n began old calls
-        → Serves dumps is_at n began sent (Received t line ∷ Opened t ∷ calls)
-    received n began calls s =
-        subst (λ (l : List Call). Serves dumps is_at n began sent l)
-        (ap (λ o. cond o (Received t line ∷ Opened t ∷ calls) (Opened t ∷ calls)) (open_now t calls))
-        (sends n began (Opened t ∷ calls) (opens n began calls s))
-
-    new_here : (n : ℕ) (began : Began) (calls : List Call) → Serves dumps is_at n began old calls
-        → AllByRecursion (λ c. token_of c < t) calls
-    new_here n began calls s = subst (λ m. AllByRecursion (λ c. token_of c < m) calls) (sym is) s.stands.given
-
-    -- nothing was carried out
-    pub sent_only : ((n : ℕ) (began : Began) (calls : List Call) → Serves dumps is_at n began sent calls
-        → Serves dumps is_at n began stepped calls)
-        → Makes dumps is_at old new (λ calls made. IsAbort session made calls)
-    sent_only same = λ n began calls s. (
-      Closed t ∷ Received t line ∷ Opened t ∷ [],
-      subst (λ (l : List Call). Serves dumps is_at n began new l)
-          (ap (λ o. cond o (Closed t ∷ Received t line ∷ Opened t ∷ calls) (Received t line ∷ Opened t ∷ calls)) (open_now t calls))
-          (closes n began (Received t line ∷ Opened t ∷ calls)
-          (same n began (Received t line ∷ Opened t ∷ calls) (received n began calls s))),
-      record {
-        token = t;
-        new = new_here n began calls s;
-        own = (refl, (refl, (refl, tt)));
-        sent = inr (ap (λ (o : Bool). cond o line []) (own t) ∙ line_is);
-      },
-    )
-
-    -- its line was carried out
-    pub carried_out : (carried : CarriedLine)
-        → ((n : ℕ) (began : Began) (calls : List Call) → Serves dumps is_at n began sent calls
-        → HasStepped dumps is_at n began t calls sent stepped carried)
-        → {E : Type 0} {done : Bool} → Makes dumps is_at old new (λ calls made. HasTried {E = E} session (Ok done) calls made)
-    carried_out carried steps = λ n began calls s.
-        let before = Received t line ∷ Opened t ∷ calls in
-        let (text, step, made, serves) = steps n began before (received n began calls s) in (
-          Closed t ∷ Ran t (text ∷ []) (step ∷ []) ∷ Received t line ∷ Opened t ∷ [],
-          subst (λ (l : List Call). Serves dumps is_at n began new l)
-              (run_closed (lost_by carried.outcome) t (text ∷ []) (step ∷ []) before (open_now t calls))
-              (closes n began (with_run (lost_by carried.outcome) t (text ∷ []) (step ∷ []) before) serves),
-          record {
-            abort = record {
-              token = t;
-              new = new_here n began calls s;
-              own = (refl, (refl, (refl, (refl, tt))));
-              sent = inr (ap (λ (o : Bool). cond o line []) (own t) ∙ line_is);
-            };
-            done = λ h. omega arith;
-          },
-        )
-
-    -- its line was carried out, if it might be
-    pub carried_maybe : (E : Type 0) (o : Option CarriedLine) (done : Bool) → done ≡ is_some o
-        → ((n : ℕ) (began : Began) (calls : List Call) → Serves dumps is_at n began sent calls
-        → MatchOption o (Serves dumps is_at n began stepped calls) (λ carried. HasStepped dumps is_at n began t calls sent stepped carried))
-        → Makes dumps is_at old new (λ calls made. HasTried {E = E} session (Ok done) calls made)
-    carried_maybe E None done is serves =
-        not_done old new session (Ok done) (λ h. absurd (false≢true (sym is ∙ h))) (sent_only serves)
-    carried_maybe E (Some carried) done is serves = carried_out carried serves
+  -- its line was carried out, if it might be
+  pub carried_maybe : (E : Type 0) (old new : Server T D disk) (session bytes : List ℕ) (o : Option CarriedLine) (done : Bool)
+      → bytes ≡ command_text (Abort session) ++ (10 ∷ []) → done ≡ is_some o
+      → IfNone o (MakesQuietly dumps is_at old new (λ calls made. IsOwn bytes made calls))
+      → IfSome o (λ carried. Makes dumps is_at old new (λ calls made. IsOwn bytes made calls × (0 < length (all_steps made))))
+      → Makes dumps is_at old new (λ calls made. HasTried {E = E} session (Ok done) calls made)
+  carried_maybe E old new session bytes None done line is none some =
+      not_done old new session bytes (Ok done) line (λ h. absurd (false≢true (sym is ∙ h))) none
+  carried_maybe E old new session bytes (Some carried) done line is none some = is_done old new session bytes line some
 
   -- ---- one abort after the other
 

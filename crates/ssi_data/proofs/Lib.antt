@@ -1,5 +1,6 @@
 pub mod Makings
 pub mod Turning
+pub mod OwnLines
 pub mod Aborts
 pub mod Rounds
 pub mod Rotating

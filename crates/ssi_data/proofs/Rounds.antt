@@ -25,6 +25,8 @@ use Rattle.ssi_data.specs.Clauses.Calls.{Makes, MakesQuietly}
 use Rattle.ssi_data.specs.Clauses.Turns.{HasCarriedOut}
 use Rattle.ssi_data.specs.Clauses.Leaving.{HasAborted}
 use Rattle.ssi_data.specs.Clauses.Rounds.{HasDone, GoesOn}
+use Rattle.ssi_data.specs.declared.clients.Clients.{Clients}
+use Rattle.ssi_data.specs.Mirror.{GoOn, server_of, users_of}
 
 -- ---- deeds, and the calls of them
 
@@ -192,6 +194,14 @@ module _ {T D : Type 0} {disk : Ghosts D} (dumps : Bool) (is_at : T → Course �
         );
   }
 
+  -- more is known of the calls
+  pub by_noted : CallsAreDeeds → (was now : Option Users) (old new : Server T D disk) (P : List Call → List Call → Type 0)
+      → is_some now ≡ is_some was → Makes dumps is_at old new (λ calls made. P calls made × HasNoted was now made)
+      → GoesOn dumps is_at was old now new
+  by_noted law was now old new P table makes =
+      by_calls law was now old new table
+      (λ n began calls s. let (made, on, (is, noted)) = makes n began calls s in (made, on, noted))
+
   -- a connection was opened, or memory ran out
   pub opens : CallsAreDeeds → QuietAreNoted → (t : ℕ) (users : Option Users) (old new : Server T D disk)
       → ((n : ℕ) (began : Began) (calls : List Call) → Serves dumps is_at n began old calls
@@ -235,3 +245,15 @@ pub failed_still : {T D : Type 0} {disk : Ghosts D} {old new : Server T D disk}
     → new ≡ old → has_failed old ≡ true → has_failed new ≡ true
 failed_still {T} {D} {disk} same failed =
     ap (λ (s : Server T D disk). has_failed s) same ∙ failed
+
+-- ---- the same of clients
+
+module _ {T D : Type 0} {disk : Ghosts D} (dumps : Bool) (is_at : T → Course → Type 0) where
+  pub then_on : (a b c : Clients T D disk) → GoOn dumps is_at a b → GoOn dumps is_at b c → GoOn dumps is_at a c
+  then_on a b c first then =
+      both dumps is_at (users_of a) (users_of b) (users_of c) (server_of a) (server_of b) (server_of c) first then
+
+  pub then_unseen : (a b c : Clients T D disk) → users_of c ≡ users_of b → server_of c ≡ server_of b → GoOn dumps is_at a b
+      → GoOn dumps is_at a c
+  then_unseen a b c same kept first =
+      unseen dumps is_at (users_of a) (users_of b) (users_of c) (server_of a) (server_of b) (server_of c) same kept first

@@ -13,10 +13,12 @@ ghost use Rattle.ssi_durable.specs.Mirror.Servers.{Serves, hub_of, log_of, store
 ghost use Rattle.ssi_cli.specs.Clauses.Serving.{aborts};
 ghost use Rattle.ssi_cli.specs.Clauses.Turns.{called};
 ghost use Rattle.ssi_data.specs.Clauses.Aborting.{HasAbortedOpen};
+ghost use Rattle.ssi_data.specs.Clauses.Calls.{IsCollection, Makes};
 ghost use Rattle.ssi_data.specs.Clauses.Rotations.{due_len};
 ghost use Rattle.ssi_data.specs.Clauses.Rounds.{HasDone};
 
 use crate::aborting::abort_open;
+use crate::collecting::{Upkeep, tidy};
 use crate::leaving::abort_all;
 use crate::segment::Next;
 use crate::turns::{carry_out, receive, reply, send};
@@ -51,6 +53,8 @@ pub struct Clients<T: Drop, D: Disk + Drop> {
     most: usize,
     // the log is left once it is longer
     due: usize,
+    // what was found when versions were counted last
+    upkeep: Upkeep,
 }
 
 impl<T: ProtocolStore + Drop, D: Disk + Drop> Clients<T, D> {
@@ -80,6 +84,10 @@ impl<T: ProtocolStore + Drop, D: Disk + Drop> Clients<T, D> {
             is_told: false,
             most,
             due: due_len(most, loaded),
+            upkeep: Upkeep {
+                commits: 0,
+                versions: 0,
+            },
         }
     }
 
@@ -120,6 +128,7 @@ impl<T: ProtocolStore + Drop, D: Disk + Drop> Clients<T, D> {
     {
         self.server.rotate(next.store, next.log);
         self.due = due_len(self.most, next.loaded);
+        self.upkeep.versions = 0;
     }
 
     /// The segment is to be left later: once its log has grown by a quarter of what it may have at most.
@@ -332,6 +341,17 @@ impl<T: ProtocolStore + Drop, D: Disk + Drop> Clients<T, D> {
                 self.unless_full(Err(fault))
             }
         }
+    }
+
+    /// Has the store drop versions that nothing needs any more, if it is time for it.
+    pub(crate) fn tidy(&mut self, alloc: Global) -> Result<(), LogFault>
+        ensures on { GoOn T.keeps T.is_at self.old self.new }
+        ensures tidied { Makes T.keeps T.is_at (server_of self.old) (server_of self.new) (λ calls made. IsCollection made calls) }
+        ensures failed { OnErr result (has_failed (server_of self.new) ≡ true) }
+    {
+        calls_are_deeds();
+        let done = tidy(alloc, &mut self.upkeep, &mut self.users, &mut self.server);
+        self.unless_full(done)
     }
 
     /// Writes to the connections what they take at once.

@@ -4,6 +4,7 @@
 
 mod aborting;
 mod clients;
+mod collecting;
 mod fault;
 mod halt;
 mod leaving;

@@ -44,6 +44,9 @@ pub fn serve<T: ProtocolStore + Drop, D: Disk + Drop>(
         if let Err(fault) = clients.end_all(alloc) {
             return Halt::Failed(fault);
         }
+        if let Err(fault) = clients.tidy(alloc) {
+            return Halt::Failed(fault);
+        }
         clients.accept(alloc, listener, poll.registry());
         if let Some(why) = clients.news() {
             return Halt::Full(why);

@@ -10,3 +10,4 @@ pub mod Journaling
 pub mod Stepping
 pub mod Serving
 pub mod Kept
+pub mod Counting

@@ -21,6 +21,7 @@ ghost use Rattle.ssi_durable.specs.Clauses.Recovery.{IsReplayed};
 ghost use Rattle.ssi_durable.specs.Clauses.Serving.{Began, from_start};
 ghost use Rattle.ssi_durable.specs.Mirror.Journals.{HasRoom};
 ghost use Rattle.ssi_durable.specs.Machinery.Noting.{noted};
+ghost use Rattle.ssi_durable.specs.Clauses.Counts.{HasVersions, commits_with, is_counted};
 
 use crate::buffer::Noted;
 use crate::journal::{Journal, is_full};
@@ -30,7 +31,7 @@ use ssi_hub::{CarriedLine, Hub};
 use ssi_line::ProtocolStore;
 use ssi_line::laws::commands_are_words;
 use ssi_log::{Log, LogFault};
-use ssi_store::Session;
+use ssi_store::{Command, Reply, Session};
 use std::alloc::{AllocError, Global};
 
 /// Connections that use one store at once, and the log of the lines that it has carried out. A reply is given out only once
@@ -41,10 +42,12 @@ pub struct Server<S: Drop, D: Disk> {
     store: S,
     journal: Journal<D>,
     noted: Noted,
+    // how many lines that count were those of a commit, since the server was made
+    commits: u64,
 }
 
 impl<S: ProtocolStore + Drop, D: Disk + Drop> Server<S, D> {
-    ghost use Rattle.ssi_durable.specs.Mirror.Servers.{Serves, HasStepped, hub_of, store_of, log_of, is_settled, has_failed};
+    ghost use Rattle.ssi_durable.specs.Mirror.Servers.{Serves, HasStepped, hub_of, store_of, log_of, is_settled, has_failed, commits_of, HasCounted};
 
     /// A server of a store that stands for the lines of its log, and that has no connection yet. `AllocError` if memory runs out.
     pub fn new(alloc: Global, store: S, log: Log<D>) -> Result<Server<S, D>, AllocError>
@@ -58,6 +61,7 @@ impl<S: ProtocolStore + Drop, D: Disk + Drop> Server<S, D> {
             store,
             journal: Journal::new(alloc, log)?,
             noted: Noted::new(alloc)?,
+            commits: 0,
         })
     }
 
@@ -102,6 +106,8 @@ impl<S: ProtocolStore + Drop, D: Disk + Drop> Server<S, D> {
             (λ _. Serves S.keeps S.is_at n began self.new calls) }
         ensures when { IfOk result (λ stepped.
             is_some stepped ≡ may_step (is_stopped (hub_of self.old)) (buffers_of (hub_of self.old) token)) }
+        ensures commits { MatchResult result (λ stepped. HasCounted token (is_counted stepped) self.old self.new)
+            (λ _. commits_of self.new ≡ commits_of self.old) }
         ensures fault { IfErr result (λ fault. is_full fault ≡ false → has_failed self.new ≡ true) }
     {
         if !self.hub.wants_run(token) {
@@ -117,6 +123,7 @@ impl<S: ProtocolStore + Drop, D: Disk + Drop> Server<S, D> {
             → Serves S.keeps S.is_at n began self.new calls }
         ensures hub { self.new.hub ≡ self.old.hub }
         ensures store { self.new.store ≡ self.old.store }
+        ensures commits { self.new.commits ≡ self.old.commits }
         ensures room { OnOk result (HasRoom self.new.journal) }
         ensures going { OnOk result (has_failed self.new ≡ false) }
         ensures fault { IfErr result (λ fault. is_full fault ≡ false → has_failed self.new ≡ true) }
@@ -139,6 +146,7 @@ impl<S: ProtocolStore + Drop, D: Disk + Drop> Server<S, D> {
         ensures some { IfSome result (λ carried. (n : ℕ) (began : Began) (calls : List Call)
             → Serves S.keeps S.is_at n began self.old calls
             → HasStepped S.keeps S.is_at n began token calls self.old self.new carried) }
+        ensures commits { HasCounted token (is_counted result) self.old self.new }
         ensures when { is_some result ≡ may_step (is_stopped (hub_of self.old)) (buffers_of (hub_of self.old) token) }
     {
         note(&self.hub, token, &mut self.noted);
@@ -149,6 +157,7 @@ impl<S: ProtocolStore + Drop, D: Disk + Drop> Server<S, D> {
         if !carried.counted {
             return Some(carried);
         }
+        self.commits = commits_with(self.noted.bytes(), self.commits);
         self.journal.add(self.noted.bytes());
         Some(carried)
     }
@@ -178,6 +187,31 @@ impl<S: ProtocolStore + Drop, D: Disk + Drop> Server<S, D> {
         ensures { IfOk result (λ v. (c : Course) → S.is_at (store_of self.now) c → map final_of v.items ≡ contents_after c) }
     {
         self.store.contents()
+    }
+
+    /// Returns how many commits were carried out and not refused since the server was made: 2^64-1 if there are more.
+    pub fn commits(&self) -> u64
+        ensures { result ≡ commits_of self.now }
+    {
+        self.commits
+    }
+
+    /// Returns how many versions the store holds, as `stat` counts them. No call of the server shows it.
+    pub fn versions(&mut self) -> u64
+        ensures serves { (n : ℕ) (began : Began) (calls : List Call) → Serves S.keeps S.is_at n began self.old calls
+            → Serves S.keeps S.is_at n began self.new calls }
+        ensures versions { (c : Course) → S.is_at (store_of self.old) c → HasVersions c result }
+        ensures hub { hub_of self.new ≡ hub_of self.old }
+        ensures log { log_of self.new ≡ log_of self.old }
+        ensures settled { is_settled self.new ≡ is_settled self.old }
+        ensures failed { has_failed self.new ≡ has_failed self.old }
+    {
+        let counts = self.store.apply(Command::Stat);
+        self.store.stats_change_nothing();
+        match counts {
+            Ok(Reply::Stat { versions, .. }) => versions,
+            _ => 0,
+        }
     }
 
     /// Returns how many bytes the log has, but for lines that are not on their way to the disk yet.
@@ -311,6 +345,17 @@ fn note(hub: &Hub, token: u64, to: &mut Noted)
 {
     if let Some(line) = hub.next_line(token) {
         to.note(line);
+    }
+}
+
+/// Returns how many commits there were, with this line, which counts.
+fn commits_with(line: &[u8], commits: u64) -> u64
+    ensures { result ≡ commits_with line.now commits }
+{
+    if line.starts_with(b"commit ") {
+        commits.saturating_add(1)
+    } else {
+        commits
     }
 }
 

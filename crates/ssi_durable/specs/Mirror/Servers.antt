@@ -1,11 +1,13 @@
 -- What clauses see of a server.
-use Rattle.std.specs.Prelude.{◌≡◌, ℕ, Bool, List, ◌∷◌, [], ◌++◌}
+use Rattle.std.specs.Prelude.{◌≡◌, ℕ, Bool, true, false, List, ◌∷◌, [], ◌++◌, Some}
 use Rattle.sqlite_disk.specs.declared.Disk.{Ghosts}
 use Rattle.adya_keys.specs.Meaning.Keys.{Bytes}
+use Rattle.adya_line.specs.Meaning.Lines.{IsPlain}
 use Rattle.ssi_store.specs.Meaning.Courses.{Course}
 use Rattle.ssi_line.specs.Meaning.Steps.{Step}
 use Rattle.ssi_hub.specs.declared.hub.Hub.{Hub}
 use Rattle.ssi_hub.specs.declared.outcome.CarriedLine.{CarriedLine}
+use Rattle.ssi_hub.specs.Clauses.Buffers.{Buffers}
 use Rattle.ssi_hub.specs.Clauses.Calls.{Call, with_run}
 use Rattle.ssi_hub.specs.Clauses.Outcomes.{lost_by}
 use Rattle.ssi_hub.specs.Clauses.Stepping.{IsLineStep}
@@ -14,7 +16,9 @@ use Rattle.ssi_log.specs.declared.log.Log.{Log}
 use Rattle.ssi_durable.specs.declared.journal.Journal.{Journal}
 use Rattle.ssi_durable.specs.declared.server.Server.{Server}
 use Rattle.ssi_durable.specs.Meaning.Logs.{logged, released}
+use Rattle.ssi_durable.specs.Clauses.Counts.{commits_with}
 use Rattle.ssi_durable.specs.Clauses.Serving.{Began, HasGoneOn, IsTold}
+use Rattle.ssi_durable.specs.Machinery.Noting.{noted}
 use Rattle.ssi_durable.specs.Mirror.Journals.{Keeps}
 
 module _ {S D : Type 0} {disk : Ghosts D} where
@@ -38,6 +42,10 @@ module _ {S D : Type 0} {disk : Ghosts D} where
   abbrev pub has_failed : Server S D disk → Bool
   has_failed s = s.journal.has_failed
 
+  -- how many commits were carried out and not refused
+  abbrev pub commits_of : Server S D disk → ℕ
+  commits_of s = s.commits
+
   -- The server of segment n has begun it so, and its hub stands for the calls, on a store that answers dumps or doesn't. Its store has gone on from the lines of the
   -- beginning by the calls since then. Its journal has these lines and those of the calls since then that count, and a crash
   -- leaves all on which what was written to connections since then rests
@@ -56,3 +64,9 @@ module _ {S D : Type 0} {disk : Ghosts D} where
   HasStepped dumps is_at n began t calls old new carried = (line : Bytes) × (step : Step)
       × IsLineStep dumps is_at (buffers_of old.hub t) old.store carried line step new.store
       × Serves dumps is_at n began new (with_run (lost_by carried.outcome) t (line ∷ []) (step ∷ []) calls)
+
+  -- if a line of the connection was carried out that counts, then it is counted if it is a commit
+  abbrev pub HasCounted : ℕ → Bool → (old new : Server S D disk) → Type 0
+  HasCounted t false old new = new.commits ≡ old.commits
+  HasCounted t true old new = (b : Buffers) (line rest : List ℕ) → buffers_of old.hub t ≡ Some b → IsPlain line
+      → b.waiting ≡ line ++ (10 ∷ rest) → new.commits ≡ commits_with (noted line) old.commits

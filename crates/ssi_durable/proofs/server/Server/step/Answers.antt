@@ -2,6 +2,8 @@ use Rattle.std.proofs.Common.{subst}
 use Rattle.ssi_hub.specs.declared.hub.Hub.{Hub}
 use Rattle.ssi_hub.specs.Clauses.Stepping.{IsLineStep}
 use Rattle.ssi_hub.specs.Mirror.{buffers_of}
+use Rattle.ssi_durable.specs.Clauses.Counts.{is_counted}
+use Rattle.ssi_durable.proofs.Counting.{counted_since}
 use Rattle.ssi_durable.proofs.Serving.{option_by}
 use Rattle.ssi_durable.proofs.server.Server.step.Goals as goal
 
@@ -20,3 +22,8 @@ returns-clause-serves g c = λ n began calls was.
       serves,
     ))
     c.carry_out.ensures.none c.carry_out.ensures.some
+
+pub returns-clause-commits : goal.returns-clause-commits
+returns-clause-commits g c =
+    counted_since (is_counted c.carry_out.result) c.args.self.now c.make_room.new.self c.carry_out.new.self c.args.token
+    c.make_room.ensures.hub c.make_room.ensures.commits c.carry_out.ensures.commits

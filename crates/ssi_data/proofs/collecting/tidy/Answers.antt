@@ -1,0 +1,14 @@
+use Rattle.ssi_data.proofs.OwnLines.{none_noted, none_opened, made_between}
+use Rattle.ssi_data.proofs.collecting.tidy.Goals as goal
+
+pub returns-then-versions-saturating_mul-clause-tidied : goal.returns-then-versions-saturating_mul-clause-tidied
+returns-then-versions-saturating_mul-clause-tidied g c =
+    let dumps = g.T.ProtocolStore.keeps in
+    let is_at = g.T.AnyStore.is_at in
+    none_noted dumps is_at c.calls_are_deeds.ensures.quiet c.args.users.now c.args.server.now c.versions-versions.new.self _
+    (none_opened dumps is_at c.args.server.now c.versions-versions.new.self _ c.versions-versions.ensures.serves)
+
+pub returns-clause-tidied : goal.returns-clause-tidied
+returns-clause-tidied g c =
+    made_between g.T.ProtocolStore.keeps g.T.AnyStore.is_at c.args.server.now c.versions-versions.new.self c.collect-done.new.server
+    c.versions-upkeep.new.self _ c.versions-versions.ensures.serves c.collect-done.ensures.collected c.versions-upkeep.ensures.serves

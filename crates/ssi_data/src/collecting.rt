@@ -1,0 +1,84 @@
+//! Collections: the server has its store drop versions that nothing needs any more.
+
+ghost use Rattle.std.specs.Prelude.{◌≡◌, ◌<◌, ◌+◌, ℕ, true, false, is_some, IfErr};
+ghost use Rattle.ssi_durable.specs.Clauses.Journals.{is_full};
+ghost use Rattle.ssi_durable.specs.Mirror.Servers.{has_failed, commits_of};
+ghost use Rattle.ssi_cli.specs.Clauses.Leaving.{HasNoted};
+ghost use Rattle.ssi_data.specs.Clauses.Calls.{IsCollection, Makes};
+
+use crate::turns::{carry_out, hand_on};
+use sqlite_disk::Disk;
+use ssi_cli::Users;
+use ssi_cli::laws::calls_are_deeds;
+use ssi_durable::Server;
+use ssi_line::ProtocolStore;
+use ssi_log::LogFault;
+use std::alloc::Global;
+
+/// After so many commits it is looked how many versions there are.
+const COMMITS: u64 = 10_000;
+
+/// What was found when versions were counted last.
+#[derive(Drop)]
+pub(crate) struct Upkeep {
+    /// How many commits there were then.
+    pub(crate) commits: u64,
+    /// How many versions the last collection left; 0 if there was none.
+    pub(crate) versions: u64,
+}
+
+/// Has the store drop the versions that nothing needs any more, if it is time for it: if there were 10,000 commits since it was
+/// looked last, and there are at least twice as many versions as the last collection left. Nothing comes of it if memory runs
+/// out, or if there is no room in the log for the line and the file can't grow. That is `Full`; after any other fault the log
+/// has failed.
+pub(crate) fn tidy<T: ProtocolStore + Drop, D: Disk + Drop>(
+    alloc: Global,
+    upkeep: &mut Upkeep,
+    users: &mut Option<Users>,
+    server: &mut Server<T, D>,
+) -> Result<(), LogFault>
+    ensures tidied { Makes T.keeps T.is_at server.old server.new
+        (λ calls made. IsCollection made calls × HasNoted users.old users.new made) }
+    // Nothing is done before it is time to look.
+    ensures early { commits_of server.old < upkeep.old.commits + 10000 → server.new ≡ server.old }
+    ensures table { is_some users.new ≡ is_some users.old }
+    ensures fault { IfErr result (λ fault. is_full fault ≡ false → has_failed server.new ≡ true) }
+{
+    let commits = server.commits();
+    calls_are_deeds();
+    if commits.saturating_sub(upkeep.commits) < COMMITS {
+        return Ok(());
+    }
+    upkeep.commits = commits;
+    let versions = server.versions();
+    if versions < upkeep.versions.saturating_mul(2) {
+        return Ok(());
+    }
+    let done = collect(alloc, users, server);
+    upkeep.versions = server.versions();
+    done
+}
+
+/// Carries out `collect`, as the line of a connection of its own, to which nothing is written. It isn't carried out if memory
+/// runs out. `Full` if there is no room in the log for it, and the file can't grow. After any other fault the log has failed.
+fn collect<T: ProtocolStore + Drop, D: Disk + Drop>(
+    alloc: Global,
+    users: &mut Option<Users>,
+    server: &mut Server<T, D>,
+) -> Result<(), LogFault>
+    ensures collected { Makes T.keeps T.is_at server.old server.new
+        (λ calls made. IsCollection made calls × HasNoted users.old users.new made) }
+    ensures table { is_some users.new ≡ is_some users.old }
+    ensures fault { IfErr result (λ fault. is_full fault ≡ false → has_failed server.new ≡ true) }
+{
+    calls_are_deeds();
+    let Ok(token) = server.opened(alloc) else {
+        return Ok(());
+    };
+    if hand_on(token, b"collect\n", server).is_err() {
+        return Ok(());
+    }
+    let done = carry_out(alloc, token, users, server);
+    server.closed(token);
+    done
+}
