@@ -208,7 +208,24 @@ def try_arguments(options, chance):
     wrong = ["--data", "--data data", "--data data s h", "--data data s h c", "--concurrent --data data s"]
     wrong += ["--early s", "--idle 5 s", "--segment 65536 s", "--data data --nothing s", "--data data --segment s"]
     wrong += ["--data data --segment %s s" % it for it in ("65535", "1099511627777", "x", "6e4", "=65536", "0x10000")]
+    wrong += ["--idle", "--data data --idle s", "--data data s --idle", "--data data --idle -1 s"]
+    wrong += ["--data data --idle 5 --idle 6 s"]
+    times = ["0", "86401", "18446744073709551617", "x", "5s", "1.5", "1e1", "=5", "0x5", "+", "++5", "+0"]
+    unread = ["--data data --idle %s s" % it for it in times] + ["--data data --idle= s", "--data data --idle=-1 s"]
+    why = "ssi: --idle takes a number of seconds from 1 to 86400"
     with tempfile.TemporaryDirectory(prefix="data-") as folder:
-        for words in wrong:
-            check("serve " + words, 2, run(Tried.program, "serve", *words.split(), cwd=folder)[2])
+        for words in wrong + unread:
+            ran = run(Tried.program, "serve", *words.split(), cwd=folder)
+            check("serve " + words, 2, ran[2])
+            if words in unread:
+                check("serve %s: why" % words, why, ran[1])
             check("serve %s: nothing is made" % words, [], os.listdir(folder))
+        empty = run(Tried.program, "serve", "--data", "data", "--idle", "", "s", cwd=folder)
+        check("serve --idle with an empty value", (why, 2), empty[1:])
+        check("serve --idle with an empty value: nothing is made", [], os.listdir(folder))
+    right = ["--idle 86400", "--idle=+86400", "--segment 65536 --idle 0086400 --abort-on-close"]
+    for words in [*right, "--idle 86400 --segment 65536"]:
+        with home() as it:
+            server = it.start(*words.split())
+            check("serve " + words, ["begun 1"], server.ask("begin A"))
+            server.end()

@@ -35,6 +35,8 @@ pub struct DataService<'a> {
     pub at_close: AtClose,
     /// The next segment is begun once the log has more bytes, and more than twice as many as its loads.
     pub segment: usize,
+    /// A session that had no command for so many seconds is aborted.
+    pub idle: Option<u64>,
 }
 
 /// A server of what the folder has, and what was found there.

@@ -17,7 +17,7 @@ use clap::Error;
 use devices::Watched;
 use progress::{Counted, Progress, Reporter};
 use ssi_arguments::{
-    LeftOpen, Manner, NoTask, SEGMENT, Task, given_arguments, segment_len, task_of,
+    LeftOpen, Manner, NoTask, SEGMENT, Task, given_arguments, idle_seconds, segment_len, task_of,
 };
 use ssi_cli::{
     AtClose, Fault, ServingFault, Status, carry_out_commands, judge_stream, judge_texts,
@@ -76,15 +76,20 @@ fn carry_out<'a>(
             folder,
             left_open,
             segment,
+            idle,
         } => {
             let Some(segment) = len_of(segment) else {
                 return Ok(wrong_segment(rt));
+            };
+            let Some(idle) = seconds_of(idle) else {
+                return Ok(wrong_idle(rt));
             };
             let service = DataService {
                 folder,
                 socket,
                 at_close: at_close(left_open),
                 segment,
+                idle,
             };
             service.run(rt)
         }
@@ -102,6 +107,19 @@ fn len_of(segment: Option<&str>) -> Option<usize> {
 
 fn wrong_segment<R: Eprint>(rt: &R) -> Status {
     let _ = eprintln!(rt; "ssi: --segment takes a number of bytes from 65536 to 1099511627776");
+    Status::WrongArguments
+}
+
+/// After how many seconds an option asks for idle sessions to be aborted, if it can be asked for. Without it none are.
+fn seconds_of(idle: Option<&str>) -> Option<Option<u64>> {
+    match idle {
+        Some(text) => idle_seconds(text).map(Some),
+        None => Some(None),
+    }
+}
+
+fn wrong_idle<R: Eprint>(rt: &R) -> Status {
+    let _ = eprintln!(rt; "ssi: --idle takes a number of seconds from 1 to 86400");
     Status::WrongArguments
 }
 

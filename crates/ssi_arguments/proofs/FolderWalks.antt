@@ -1,5 +1,5 @@
 -- That the parser accepts the arguments of `serve` with a folder, and finds the request in them.
-use Rattle.std.proofs.Common.{◌≡◌, ◌∙◌, ◌==◌, ◌&&◌, true, false, List, [], ◌∷◌, ◌++◌, refl, ap, ap₂, codes}
+use Rattle.std.proofs.Common.{◌≡◌, ◌∙◌, ◌==◌, ◌&&◌, true, false, List, [], ◌∷◌, ◌++◌, refl, sym, ap, ap₂, append_assoc, codes}
 use Rattle.std.specs.Prelude.{Option, Some, None}
 use Rattle.std.specs.List.{fold}
 use Rattle.std.proofs.lemmas.Bool.{and_parts, not-true}
@@ -7,7 +7,7 @@ use Rattle.clap.specs.Walk.{Held, Text, Walk, value, finished, nothing_held, opt
 use Rattle.clap.specs.Simple.{entered}
 use Rattle.clap.specs.Takes.{built_takes, level_passes, step_passes, turn_passes, walk_passes}
 use Rattle.clap.proofs.OnLiterals.{clap_on_literals}
-use Rattle.ssi_arguments.specs.Clauses.Arguments.{keep, are_plain, is_plain, arguments_of, folder_options_of, given, paths_of, segment_option}
+use Rattle.ssi_arguments.specs.Clauses.Arguments.{keep, are_plain, is_plain, arguments_of, folder_options_of, given, idle_option, left_open_option, paths_of, segment_option}
 use Rattle.ssi_arguments.specs.Clauses.CommandLine.{request_in}
 use Rattle.ssi_arguments.specs.declared.arguments.LeftOpen.{LeftOpen}
 use Rattle.ssi_arguments.specs.declared.arguments.LeftOpen.TheVariants.{Keep, Abort}
@@ -62,25 +62,61 @@ abbrev pub kept_held : Option Text → Text → Held
 kept_held None f = data_held (f ∷ [])
 kept_held (Some n) f = segment_held f (n ∷ [])
 
--- what the options leave
-abbrev pub folder_held : LeftOpen → Option Text → Text → Held
-folder_held Keep g f = kept_held g f
-folder_held Abort g f = (walked keeps.rules [] (at (kept_held g f) 1) (codes "--abort-on-close")).held
+-- what is held from the option `--idle` on, after this
+abbrev pub idle_held : Held → List Text → Held
+idle_held h values = record (settled keeps.rules h) { pending = Some (codes "idle", values) }
 
-pub aborts : (g : Option Text) (f : Text)
-    → walked keeps.rules [] (at (folder_held Keep g f) 1) (codes "--abort-on-close") ≡ at (folder_held Abort g f) 1
+pub awaits_seconds : (g : Option Text) (f : Text) → walked keeps.rules [] (at (kept_held g f) 1) (codes "--idle")
+    ≡ waiting_for (codes "idle") (idle_held (kept_held g f) [])
 unfolding clap_on_literals
-aborts None f = refl
-aborts (Some n) f = refl
+awaits_seconds None f = refl
+awaits_seconds (Some n) f = refl
+
+pub takes_seconds : (h : Held) (n : Text) → is_plain n ≡ true
+    → walked keeps.rules [] (waiting_for (codes "idle") (idle_held h [])) n ≡ at (idle_held h (n ∷ [])) 1
+unfolding walked
+takes_seconds h [] p = refl
+takes_seconds h (b ∷ bs) p = let e = not-true (b == 45) p in rw (e, e) refl
+
+-- what these three options leave
+abbrev pub timed_held : (g i : Option Text) → Text → Held
+timed_held g None f = kept_held g f
+timed_held g (Some n) f = idle_held (kept_held g f) (n ∷ [])
+
+-- what the options leave
+abbrev pub folder_held : LeftOpen → (g i : Option Text) → Text → Held
+folder_held Keep g i f = timed_held g i f
+folder_held Abort g i f = (walked keeps.rules [] (at (timed_held g i f) 1) (codes "--abort-on-close")).held
+
+pub aborts : (g i : Option Text) (f : Text)
+    → walked keeps.rules [] (at (timed_held g i f) 1) (codes "--abort-on-close") ≡ at (folder_held Abort g i f) 1
+unfolding clap_on_literals
+aborts None None f = refl
+aborts None (Some n) f = refl
+aborts (Some m) None f = refl
+aborts (Some m) (Some n) f = refl
 
 -- plain arguments, apart
-pub plain_parts : (f : Text) (g : Option Text) (others : List Text) → are_plain (f ∷ given g ++ others) ≡ true
-    → (is_plain f ≡ true) × (are_plain (given g) ≡ true) × (are_plain others ≡ true)
-plain_parts f None others p = let a = and_parts (is_plain f) (are_plain others) p in (a.0, refl, a.1)
-plain_parts f (Some n) others p =
-    let a = and_parts (is_plain f) (are_plain (n ∷ others)) p in
-    let b = and_parts (is_plain n) (are_plain others) a.1 in
-    (a.0, ap (λ x. x && true) b.0, b.1)
+plain_given : (g : Option Text) (others : List Text) → are_plain (given g ++ others) ≡ true
+    → (are_plain (given g) ≡ true) × (are_plain others ≡ true)
+plain_given None others p = (refl, p)
+plain_given (Some n) others p =
+    let a = and_parts (is_plain n) (are_plain others) p in (ap (λ x. x && true) a.0, a.1)
+
+pub plain_parts : (f : Text) (g i : Option Text) (others : List Text) → are_plain (f ∷ given g ++ given i ++ others) ≡ true
+    → (is_plain f ≡ true) × (are_plain (given g) ≡ true) × (are_plain (given i) ≡ true) × (are_plain others ≡ true)
+plain_parts f g i others p =
+    let a = and_parts (is_plain f) (are_plain (given g ++ given i ++ others)) p in
+    let b = plain_given g (given i ++ others) (sym (ap are_plain (append_assoc (given g) (given i) others)) ∙ a.1) in
+    let c = plain_given i others b.1 in
+    (a.0, b.0, c.0, c.1)
+
+-- the options, apart
+pub options_apart : (l : LeftOpen) (g i : Option Text) (f : Text) (arguments : List Text) → folder_options_of l g i f ++ arguments
+    ≡ codes "--data" ∷ f ∷ segment_option g ++ (idle_option i ++ (left_open_option l ++ arguments))
+options_apart l g i f arguments =
+    ap (λ ws. codes "--data" ∷ f ∷ ws) (append_assoc (segment_option g ++ idle_option i) (left_open_option l) arguments
+    ∙ append_assoc (segment_option g) (idle_option i) (left_open_option l ++ arguments))
 
 pub plain_length : (n : Text) → are_plain (given (Some n)) ≡ true → is_plain n ≡ true
 plain_length n q = (and_parts (is_plain n) true q).0
@@ -93,6 +129,10 @@ after_segment : (f n : Text) → is_plain n ≡ true
     → walked keeps.rules [] (walked keeps.rules [] (at (data_held (f ∷ [])) 1) (codes "--segment")) n ≡ at (segment_held f (n ∷ [])) 1
 after_segment f n q = ap (λ w. walked keeps.rules [] w n) (awaits_length f) ∙ takes_length f n q
 
+after_idle : (g : Option Text) (f n : Text) → is_plain n ≡ true
+    → walked keeps.rules [] (walked keeps.rules [] (at (kept_held g f) 1) (codes "--idle")) n ≡ at (idle_held (kept_held g f) (n ∷ [])) 1
+after_idle g f n q = ap (λ w. walked keeps.rules [] w n) (awaits_seconds g f) ∙ takes_seconds (kept_held g f) n q
+
 kept_walks_on : (g : Option Text) (f : Text) (arguments : List Text) → is_plain f ≡ true → are_plain (given g) ≡ true
     → walk keeps.rules [] nothing_held (codes "--data" ∷ f ∷ segment_option g ++ arguments)
     ≡ fold (walked keeps.rules []) (at (kept_held g f) 1) arguments
@@ -101,20 +141,27 @@ kept_walks_on (Some n) f arguments p q =
     ap (λ w. fold (walked keeps.rules []) w (codes "--segment" ∷ n ∷ arguments)) (after_data f p)
     ∙ ap (λ w. fold (walked keeps.rules []) w arguments) (after_segment f n (plain_length n q))
 
-aborts_on : (g : Option Text) (f : Text) (arguments : List Text)
-    → fold (walked keeps.rules []) (at (kept_held g f) 1) (codes "--abort-on-close" ∷ arguments)
-    ≡ fold (walked keeps.rules []) (at (folder_held Abort g f) 1) arguments
-aborts_on g f arguments = ap (λ w. fold (walked keeps.rules []) w arguments) (aborts g f)
+timed_walks_on : (g i : Option Text) (f : Text) (arguments : List Text) → are_plain (given i) ≡ true
+    → fold (walked keeps.rules []) (at (kept_held g f) 1) (idle_option i ++ arguments)
+    ≡ fold (walked keeps.rules []) (at (timed_held g i f) 1) arguments
+timed_walks_on g None f arguments q = refl
+timed_walks_on g (Some n) f arguments q =
+    ap (λ w. fold (walked keeps.rules []) w arguments) (after_idle g f n (plain_length n q))
 
-pub walks_on : (l : LeftOpen) (g : Option Text) (f : Text) (arguments : List Text) → is_plain f ≡ true → are_plain (given g) ≡ true
-    → walk keeps.rules [] nothing_held (folder_options_of l g f ++ arguments)
-    ≡ fold (walked keeps.rules []) (at (folder_held l g f) 1) arguments
-walks_on Keep None f arguments p q = kept_walks_on None f arguments p q
-walks_on Keep (Some n) f arguments p q = kept_walks_on (Some n) f arguments p q
-walks_on Abort None f arguments p q =
-    kept_walks_on None f (codes "--abort-on-close" ∷ arguments) p q ∙ aborts_on None f arguments
-walks_on Abort (Some n) f arguments p q =
-    kept_walks_on (Some n) f (codes "--abort-on-close" ∷ arguments) p q ∙ aborts_on (Some n) f arguments
+left_walks_on : (l : LeftOpen) (g i : Option Text) (f : Text) (arguments : List Text)
+    → fold (walked keeps.rules []) (at (timed_held g i f) 1) (left_open_option l ++ arguments)
+    ≡ fold (walked keeps.rules []) (at (folder_held l g i f) 1) arguments
+left_walks_on Keep g i f arguments = refl
+left_walks_on Abort g i f arguments = ap (λ w. fold (walked keeps.rules []) w arguments) (aborts g i f)
+
+pub walks_on : (l : LeftOpen) (g i : Option Text) (f : Text) (arguments : List Text) → is_plain f ≡ true
+    → are_plain (given g) ≡ true → are_plain (given i) ≡ true
+    → walk keeps.rules [] nothing_held (folder_options_of l g i f ++ arguments)
+    ≡ fold (walked keeps.rules []) (at (folder_held l g i f) 1) arguments
+walks_on l g i f arguments p q r =
+    ap (walk keeps.rules [] nothing_held) (options_apart l g i f arguments)
+    ∙ kept_walks_on g f (idle_option i ++ (left_open_option l ++ arguments)) p q
+    ∙ timed_walks_on g i f (left_open_option l ++ arguments) r ∙ left_walks_on l g i f arguments
 
 passes_data : turn_passes keeps [] (at nothing_held 1) (codes "--data") ≡ true
 unfolding clap_on_literals
@@ -132,10 +179,21 @@ passes_length : (f n : Text) → is_plain n ≡ true → turn_passes keeps [] (w
 passes_length f [] p = refl
 passes_length f (b ∷ bs) p = let e = not-true (b == 45) p in rw (e, e) refl
 
-passes_abort : (g : Option Text) (f : Text) → turn_passes keeps [] (at (folder_held Keep g f) 1) (codes "--abort-on-close") ≡ true
+passes_idle : (g : Option Text) (f : Text) → turn_passes keeps [] (at (kept_held g f) 1) (codes "--idle") ≡ true
 unfolding clap_on_literals
-passes_abort None f = refl
-passes_abort (Some n) f = refl
+passes_idle None f = refl
+passes_idle (Some n) f = refl
+
+passes_seconds : (h : Held) (n : Text) → is_plain n ≡ true → turn_passes keeps [] (waiting_for (codes "idle") (idle_held h [])) n ≡ true
+passes_seconds h [] p = refl
+passes_seconds h (b ∷ bs) p = let e = not-true (b == 45) p in rw (e, e) refl
+
+passes_abort : (g i : Option Text) (f : Text) → turn_passes keeps [] (at (timed_held g i f) 1) (codes "--abort-on-close") ≡ true
+unfolding clap_on_literals
+passes_abort None None f = refl
+passes_abort None (Some n) f = refl
+passes_abort (Some m) None f = refl
+passes_abort (Some m) (Some n) f = refl
 
 -- an option whose value is the next argument
 pass_two : (w₁ w₂ w₃ : Walk) (name text : Text) (arguments : List Text) → turn_passes keeps [] w₁ name ≡ true
@@ -167,77 +225,105 @@ pass_kept (Some n) f arguments p q e =
     (pass_two (at (data_held (f ∷ [])) 1) (waiting_for (codes "segment") (segment_held f [])) (at (segment_held f (n ∷ [])) 1)
     (codes "--segment") n arguments (passes_segment f) (awaits_length f) (passes_length f n m) (takes_length f n m) e)
 
-pass_aborts : (g : Option Text) (f : Text) (arguments : List Text) → walk_passes keeps [] (at (folder_held Abort g f) 1) arguments ≡ true
-    → walk_passes keeps [] (at (kept_held g f) 1) (codes "--abort-on-close" ∷ arguments) ≡ true
-pass_aborts g f arguments e =
-    pass_one (at (kept_held g f) 1) (at (folder_held Abort g f) 1) (codes "--abort-on-close") arguments (passes_abort g f) (aborts g f) e
+pass_timed : (g i : Option Text) (f : Text) (arguments : List Text) → are_plain (given i) ≡ true
+    → walk_passes keeps [] (at (timed_held g i f) 1) arguments ≡ true
+    → walk_passes keeps [] (at (kept_held g f) 1) (idle_option i ++ arguments) ≡ true
+pass_timed g None f arguments q e = e
+pass_timed g (Some n) f arguments q e =
+    let h = kept_held g f in
+    let m = plain_length n q in
+    pass_two (at h 1) (waiting_for (codes "idle") (idle_held h [])) (at (idle_held h (n ∷ [])) 1) (codes "--idle") n arguments
+    (passes_idle g f) (awaits_seconds g f) (passes_seconds h n m) (takes_seconds h n m) e
 
-pass_on : (l : LeftOpen) (g : Option Text) (f : Text) (arguments : List Text) → is_plain f ≡ true → are_plain (given g) ≡ true
-    → walk_passes keeps [] (at (folder_held l g f) 1) arguments ≡ true
-    → walk_passes keeps [] (at nothing_held 1) (folder_options_of l g f ++ arguments) ≡ true
-pass_on Keep None f arguments p q e = pass_kept None f arguments p q e
-pass_on Keep (Some n) f arguments p q e = pass_kept (Some n) f arguments p q e
-pass_on Abort None f arguments p q e =
-    pass_kept None f (codes "--abort-on-close" ∷ arguments) p q (pass_aborts None f arguments e)
-pass_on Abort (Some n) f arguments p q e =
-    pass_kept (Some n) f (codes "--abort-on-close" ∷ arguments) p q (pass_aborts (Some n) f arguments e)
+pass_left : (l : LeftOpen) (g i : Option Text) (f : Text) (arguments : List Text)
+    → walk_passes keeps [] (at (folder_held l g i f) 1) arguments ≡ true
+    → walk_passes keeps [] (at (timed_held g i f) 1) (left_open_option l ++ arguments) ≡ true
+pass_left Keep g i f arguments e = e
+pass_left Abort g i f arguments e =
+    pass_one (at (timed_held g i f) 1) (at (folder_held Abort g i f) 1) (codes "--abort-on-close") arguments
+    (passes_abort g i f) (aborts g i f) e
+
+pass_on : (l : LeftOpen) (g i : Option Text) (f : Text) (arguments : List Text) → is_plain f ≡ true
+    → are_plain (given g) ≡ true → are_plain (given i) ≡ true → walk_passes keeps [] (at (folder_held l g i f) 1) arguments ≡ true
+    → walk_passes keeps [] (at nothing_held 1) (folder_options_of l g i f ++ arguments) ≡ true
+pass_on l g i f arguments p q r e =
+    ap (walk_passes keeps [] (at nothing_held 1)) (options_apart l g i f arguments)
+    ∙ pass_kept g f (idle_option i ++ (left_open_option l ++ arguments)) p q
+    (pass_timed g i f (left_open_option l ++ arguments) r (pass_left l g i f arguments e))
 
 -- ---- the socket
 
-passes_one : (l : LeftOpen) (g : Option Text) (f : Text) → step_passes keeps 1 (folder_held l g f) value ≡ true
+passes_one : (l : LeftOpen) (g i : Option Text) (f : Text) → step_passes keeps 1 (folder_held l g i f) value ≡ true
 unfolding clap_on_literals
-passes_one Keep None f = refl
-passes_one Keep (Some n) f = refl
-passes_one Abort None f = refl
-passes_one Abort (Some n) f = refl
+passes_one Keep None None f = refl
+passes_one Keep None (Some n) f = refl
+passes_one Keep (Some m) None f = refl
+passes_one Keep (Some m) (Some n) f = refl
+passes_one Abort None None f = refl
+passes_one Abort None (Some n) f = refl
+passes_one Abort (Some m) None f = refl
+passes_one Abort (Some m) (Some n) f = refl
 
-keep_ends_well : (l : LeftOpen) (g : Option Text) (s f : Text) → ends_well keeps (one_path (folder_held l g f) keeps s) ≡ true
+keep_ends_well : (l : LeftOpen) (g i : Option Text) (s f : Text) → ends_well keeps (one_path (folder_held l g i f) keeps s) ≡ true
 unfolding clap_on_literals
-keep_ends_well Keep None s f = refl
-keep_ends_well Keep (Some n) s f = refl
-keep_ends_well Abort None s f = refl
-keep_ends_well Abort (Some n) s f = refl
+keep_ends_well Keep None None s f = refl
+keep_ends_well Keep None (Some n) s f = refl
+keep_ends_well Keep (Some m) None s f = refl
+keep_ends_well Keep (Some m) (Some n) s f = refl
+keep_ends_well Abort None None s f = refl
+keep_ends_well Abort None (Some n) s f = refl
+keep_ends_well Abort (Some m) None s f = refl
+keep_ends_well Abort (Some m) (Some n) s f = refl
 
-found_keep : (l : LeftOpen) (g : Option Text) (s f : Text)
-    → request_in Folder (Some (codes "serve", finished keeps.rules (one_path (folder_held l g f) keeps s).held)) ≡ keep l g s f
+found_keep : (l : LeftOpen) (g i : Option Text) (s f : Text)
+    → request_in Folder (Some (codes "serve", finished keeps.rules (one_path (folder_held l g i f) keeps s).held)) ≡ keep l g i s f
 unfolding clap_on_literals
-found_keep Keep None s f = refl
-found_keep Keep (Some n) s f = refl
-found_keep Abort None s f = refl
-found_keep Abort (Some n) s f = refl
+found_keep Keep None None s f = refl
+found_keep Keep None (Some n) s f = refl
+found_keep Keep (Some m) None s f = refl
+found_keep Keep (Some m) (Some n) s f = refl
+found_keep Abort None None s f = refl
+found_keep Abort None (Some n) s f = refl
+found_keep Abort (Some m) None s f = refl
+found_keep Abort (Some m) (Some n) s f = refl
 
-passes_to_keep : (l : LeftOpen) (g : Option Text) (s f : Text)
-    → level_passes folder_parser.top names nothing_held (arguments_of (keep l g s f)) true ≡ true
+passes_to_keep : (l : LeftOpen) (g i : Option Text) (s f : Text)
+    → level_passes folder_parser.top names nothing_held (arguments_of (keep l g i s f)) true ≡ true
 unfolding clap_on_literals
-passes_to_keep Keep None s f = refl
-passes_to_keep Keep (Some n) s f = refl
-passes_to_keep Abort None s f = refl
-passes_to_keep Abort (Some n) s f = refl
+passes_to_keep Keep None None s f = refl
+passes_to_keep Keep None (Some n) s f = refl
+passes_to_keep Keep (Some m) None s f = refl
+passes_to_keep Keep (Some m) (Some n) s f = refl
+passes_to_keep Abort None None s f = refl
+passes_to_keep Abort None (Some n) s f = refl
+passes_to_keep Abort (Some m) None s f = refl
+passes_to_keep Abort (Some m) (Some n) s f = refl
 
-module _ (l : LeftOpen) (g : Option Text) (s f : Text) (p : is_plain f ≡ true) (o : are_plain (given g) ≡ true) (q : is_plain s ≡ true) where
-  walk_keep : walk keeps.rules [] nothing_held (folder_options_of l g f ++ s ∷ []) ≡ one_path (folder_held l g f) keeps s
-  walk_keep = walks_on l g f (s ∷ []) p o ∙ walk_one (folder_held l g f) keeps s q
+module _ (l : LeftOpen) (g i : Option Text) (s f : Text) (p : is_plain f ≡ true) (o : are_plain (given g) ≡ true)
+    (r : are_plain (given i) ≡ true) (q : is_plain s ≡ true) where
+  walk_keep : walk keeps.rules [] nothing_held (folder_options_of l g i f ++ s ∷ []) ≡ one_path (folder_held l g i f) keeps s
+  walk_keep = walks_on l g i f (s ∷ []) p o r ∙ walk_one (folder_held l g i f) keeps s q
 
-  socket_passes : walk_passes keeps [] (at (folder_held l g f) 1) (s ∷ []) ≡ true
+  socket_passes : walk_passes keeps [] (at (folder_held l g i f) 1) (s ∷ []) ≡ true
   unfolding walk_passes
-  socket_passes = ap (λ a. a && true) (turn_passes-plain [] (folder_held l g f) 1 keeps s q refl ∙ passes_one l g f)
+  socket_passes = ap (λ a. a && true) (turn_passes-plain [] (folder_held l g i f) 1 keeps s q refl ∙ passes_one l g i f)
 
-  passes_keep : level_passes keeps [] nothing_held (folder_options_of l g f ++ s ∷ []) false ≡ true
+  passes_keep : level_passes keeps [] nothing_held (folder_options_of l g i f ++ s ∷ []) false ≡ true
   passes_keep =
-      ap₂ (λ a b. a && b) (pass_on l g f (s ∷ []) p o socket_passes) (ap (ends_well keeps) walk_keep ∙ keep_ends_well l g s f)
+      ap₂ (λ a b. a && b) (pass_on l g i f (s ∷ []) p o r socket_passes) (ap (ends_well keeps) walk_keep ∙ keep_ends_well l g i s f)
 
-pub taken_folder : (l : LeftOpen) (g : Option Text) (s f : Text) → are_plain (paths_of (keep l g s f)) ≡ true
-    → built_takes folder_parser nothing_held (arguments_of (keep l g s f)) ≡ true
-taken_folder l g s f p =
-    let plain = plain_parts f g (s ∷ []) p in
-    let q = (and_parts (is_plain s) true plain.2).0 in
-    rw (stops_at_serve (folder_options_of l g f ++ s ∷ []), passes_keep l g s f plain.0 plain.1 q, passes_to_keep l g s f) refl
+pub taken_folder : (l : LeftOpen) (g i : Option Text) (s f : Text) → are_plain (paths_of (keep l g i s f)) ≡ true
+    → built_takes folder_parser nothing_held (arguments_of (keep l g i s f)) ≡ true
+taken_folder l g i s f p =
+    let plain = plain_parts f g i (s ∷ []) p in
+    let q = (and_parts (is_plain s) true plain.3).0 in
+    rw (stops_at_serve (folder_options_of l g i f ++ s ∷ []), passes_keep l g i s f plain.0 plain.1 plain.2 q, passes_to_keep l g i s f) refl
 
-pub found_folder : (l : LeftOpen) (g : Option Text) (s f : Text) → are_plain (paths_of (keep l g s f)) ≡ true
-    → request_in Folder (entered folder_parser (top_walk (arguments_of (keep l g s f))).stopped) ≡ keep l g s f
-found_folder l g s f p =
-    let plain = plain_parts f g (s ∷ []) p in
-    let q = (and_parts (is_plain s) true plain.2).0 in
-    ap (λ stop. request_in Folder (entered folder_parser stop)) (stops_at_serve (folder_options_of l g f ++ s ∷ []))
-    ∙ ap (λ w. request_in Folder (Some (codes "serve", finished keeps.rules w.held))) (walk_keep l g s f plain.0 plain.1 q)
-    ∙ found_keep l g s f
+pub found_folder : (l : LeftOpen) (g i : Option Text) (s f : Text) → are_plain (paths_of (keep l g i s f)) ≡ true
+    → request_in Folder (entered folder_parser (top_walk (arguments_of (keep l g i s f))).stopped) ≡ keep l g i s f
+found_folder l g i s f p =
+    let plain = plain_parts f g i (s ∷ []) p in
+    let q = (and_parts (is_plain s) true plain.3).0 in
+    ap (λ stop. request_in Folder (entered folder_parser stop)) (stops_at_serve (folder_options_of l g i f ++ s ∷ []))
+    ∙ ap (λ w. request_in Folder (Some (codes "serve", finished keeps.rules w.held))) (walk_keep l g i s f plain.0 plain.1 plain.2 q)
+    ∙ found_keep l g i s f

@@ -47,12 +47,14 @@ pub enum Task<'a> {
         manner: Manner,
     },
     /// To carry out the commands of the connections to this socket, all at once, on the store in this folder, with segments of
-    /// this length, as it was given: [`segment_len`](crate::segment_len) reads it.
+    /// this length, and with sessions that are aborted after so many seconds without a command. Both are as they were given:
+    /// [`segment_len`](crate::segment_len) and [`idle_seconds`](crate::idle_seconds) read them.
     Keep {
         socket: &'a str,
         folder: &'a str,
         left_open: LeftOpen,
         segment: Option<&'a str>,
+        idle: Option<&'a str>,
     },
     /// To certify the finished segments in this folder.
     Seal {
@@ -157,9 +159,9 @@ pub fn task_of<'a>(alloc: Global, arguments: &'a [String]) -> Result<Task<'a>, N
     ensures kept { let rest = drop 1 (map string_bytes arguments.entry.now) in
         IfOk result (λ task. storage_for (request_of task) ≡ storage_in rest) }
     ensures kept_alone { let rest = drop 1 (map string_bytes arguments.entry.now) in
-        (left_open : LeftOpen) (segment : Option (List ℕ)) (folder : List ℕ) (others : List (List ℕ))
-        → are_plain (folder ∷ given segment ++ others) ≡ true
-        → rest ≡ codes "serve" ∷ folder_options_of left_open segment folder ++ others
+        (left_open : LeftOpen) (segment idle : Option (List ℕ)) (folder : List ℕ) (others : List (List ℕ))
+        → are_plain (folder ∷ given segment ++ given idle ++ others) ≡ true
+        → rest ≡ codes "serve" ∷ folder_options_of left_open segment idle folder ++ others
         → IfOk result (λ task. rest ≡ arguments_of (request_of task)) }
     ensures kept_at_once { let rest = drop 1 (map string_bytes arguments.entry.now) in
         storage_in rest ≡ Folder → has_option (codes "--concurrent") rest ≡ true → IsErr result }
@@ -217,6 +219,7 @@ fn task_served<'a>(storage: Storage, given: &ArgMatches<'a>) -> Task<'a>
             folder: path(given, "data"),
             left_open: what_is_left(given),
             segment: text(given, "segment"),
+            idle: text(given, "idle"),
         },
     }
 }

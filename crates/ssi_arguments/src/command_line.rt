@@ -96,6 +96,7 @@ fn serve_with_folder<'a>(alloc: Global) -> Result<Command<'a>, AllocError>
     let serve = with_file(alloc, serve, "SOCKET", help::SOCKET)?;
     let serve = with_flag(alloc, serve, "abort-on-close", help::KEEP_ABORT_ON_CLOSE)?;
     let serve = with_segment(alloc, serve)?;
+    let serve = with_idle(alloc, serve)?;
     with_data(alloc, serve, true)
 }
 
@@ -158,6 +159,14 @@ fn with_segment<'a>(alloc: Global, command: Command<'a>) -> Result<Command<'a>, 
     ensures local { (fields_of command.entry).has_globals ≡ false → IfOk result (λ c. (fields_of c).has_globals ≡ false) }
 {
     command.arg(value(alloc, "segment", "BYTES", help::SEGMENT))
+}
+
+/// Adds the option `--idle`.
+fn with_idle<'a>(alloc: Global, command: Command<'a>) -> Result<Command<'a>, AllocError>
+    ensures app { IfOk result (λ c. app_of c ≡ with_rule (app_of command.entry) (value_rule (codes "idle") false)) }
+    ensures local { (fields_of command.entry).has_globals ≡ false → IfOk result (λ c. (fields_of c).has_globals ≡ false) }
+{
+    command.arg(value(alloc, "idle", "SECONDS", help::IDLE))
 }
 
 /// Adds the option `--data`.

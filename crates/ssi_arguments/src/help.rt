@@ -91,6 +91,9 @@ pub const DATA: &str = "The folder of the data; in place of both files";
 /// The option that says how long segments are.
 pub const SEGMENT: &str = "Begin the next log after so many; 65536 to 2^40";
 
+/// The option that says how long a session may be idle.
+pub const IDLE: &str = "Abort a session that had no command for so long";
+
 /// What `seal` does.
 pub const SEAL: &str = "Certifies what a store that keeps its data has done";
 

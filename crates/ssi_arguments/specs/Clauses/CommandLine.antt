@@ -53,8 +53,9 @@ files_app =
 -- `serve` with a folder
 abbrev pub folder_app : App
 folder_app =
-    with_rule (with_rule (with_rule (with_rule (new_app (codes "serve")) (file_rule (codes "SOCKET")))
-    (flag_rule (codes "abort-on-close"))) (value_rule (codes "segment") false)) (value_rule (codes "data") true)
+    with_rule (with_rule (with_rule (with_rule (with_rule (new_app (codes "serve")) (file_rule (codes "SOCKET")))
+    (flag_rule (codes "abort-on-close"))) (value_rule (codes "segment") false)) (value_rule (codes "idle") false))
+    (value_rule (codes "data") true)
 
 abbrev pub serve_app : Storage → App
 serve_app Files = files_app
@@ -94,7 +95,8 @@ abbrev pub request_served : Storage → List Row → Request
 request_served Files rows =
     serve (manner_in rows) (path_in rows (codes "SOCKET")) (path_in rows (codes "HISTORY")) (path_in rows (codes "CERTIFICATE"))
 request_served Folder rows =
-    keep (left_open_in rows) (first_of (codes "segment") rows) (path_in rows (codes "SOCKET")) (path_in rows (codes "data"))
+    keep (left_open_in rows) (first_of (codes "segment") rows) (first_of (codes "idle") rows) (path_in rows (codes "SOCKET"))
+    (path_in rows (codes "data"))
 
 -- the request of a command of this name with these matches
 abbrev pub request_named : Storage → Text → List Row → Request
