@@ -8,7 +8,8 @@ The worked scripts and N random lists of commands (`--cases`, default 20) are se
 `stop` or by a signal, and start again. All replies must be those that `ssi script` gives to the same lines, and the log
 must be these lines. Logs and folders that are damaged, used by another server or closed to this user must be refused,
 and stay as they are. The disk gets full; a sync takes long, and fails. The log goes over many segments: each loads what the
-one before ended with. A server that writes values over has old ones dropped in time. Then N servers (`--kills`, default 3) are killed
+one before ended with. A server that writes values over drops old ones in time, and one
+aborts sessions that had no command for long. Then N servers (`--kills`, default 3) are killed
 at random moments, while clients move money between accounts: what each client was told must be what `ssi script` replies
 to the lines of the log, no transfer that was told to be committed may be lost, the sum must stay, and sessions that were
 open go on. If it can't mount a small file system or watch the calls of a server, it says that it didn't try that.
@@ -27,6 +28,7 @@ import time
 import compare_store
 from data_faults import try_full, try_syncs
 from data_folders import try_arguments, try_damage, try_files, try_folders, try_torn
+from data_idle import try_idle
 from data_kills import try_kills
 from data_rotations import try_rotations
 from data_server import HEAD, SECONDS, Server, Tried, check, home, is_counted, scripted
@@ -146,6 +148,7 @@ PARTS = {
     "syncs": try_syncs,
     "rotations": try_rotations,
     "upkeep": try_upkeep,
+    "idle": try_idle,
     "kills": try_kills,
 }
 

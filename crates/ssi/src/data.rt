@@ -7,8 +7,8 @@ use mio::net::UnixListener;
 use sqlite_disk::Unknown;
 use ssi_cli::{AtClose, Fault, Status, listen, new_live_store};
 use ssi_data::{
-    Clients, DataFault, Halt, Rotation, Segment, Started, abort_open, open_last, rotate, serve,
-    start,
+    Clients, DataFault, Halt, Idle, Rotation, Segment, Started, abort_open, open_last, rotate,
+    serve, start,
 };
 use ssi_durable::{Recovered, Server};
 use ssi_files::{FileDisk, Folder, SegmentNumber};
@@ -44,6 +44,7 @@ pub struct DataService<'a> {
 struct Opened {
     segments: Segments,
     server: FileServer,
+    idle: Option<Idle>,
     count: usize,
     recovered: Recovered,
 }
@@ -61,6 +62,7 @@ impl<'a> DataService<'a> {
         let Opened {
             mut segments,
             server,
+            idle,
             count,
             recovered,
         } = match self.opened(rt) {
@@ -76,6 +78,7 @@ impl<'a> DataService<'a> {
             rt.alloc(),
             server,
             self.at_close,
+            idle,
             self.segment,
             recovered.loaded,
         );
@@ -108,9 +111,21 @@ impl<'a> DataService<'a> {
                 last: number,
             },
             server,
+            idle: self.idle_from(rt)?,
             count,
             recovered,
         })
+    }
+
+    /// For how long a session may have no command from now on, if there is a bound.
+    fn idle_from(self, rt: &HostRuntime) -> Result<Option<Idle>, DataFault> {
+        let Some(limit) = self.idle else {
+            return Ok(None);
+        };
+        match Idle::new(rt, limit) {
+            Ok(idle) => Ok(Some(idle)),
+            Err(error) => Err(DataFault::System(error)),
+        }
     }
 
     fn serve_bound(
@@ -138,7 +153,7 @@ impl<'a> DataService<'a> {
             return Err(self.socket_fault());
         };
         for _ in 0..u64::MAX {
-            match serve(rt.alloc(), poll, listener, &mut events, clients) {
+            match serve(rt, poll, listener, &mut events, clients) {
                 Halt::Stopped => return Ok(Status::Fine),
                 Halt::Full(why) => self.say_full(rt, why),
                 Halt::Rotate => self.begin_next(rt, segments, clients)?,

@@ -18,7 +18,7 @@ use Rattle.ssi_data.specs.Clauses.Leaving.{HasAborted, HasTried}
 use Rattle.ssi_data.specs.Clauses.Aborting.{HadTransaction, HasAbortedOpen, HasCarriedOutAborts}
 
 -- the own line is `abort` of the session
-as_abort : (session bytes : List ℕ) (made calls : List Call) → bytes ≡ command_text (Abort session) ++ (10 ∷ [])
+pub as_abort : (session bytes : List ℕ) (made calls : List Call) → bytes ≡ command_text (Abort session) ++ (10 ∷ [])
     → IsOwn bytes made calls → IsAbort session made calls
 as_abort session bytes made calls is o = record {
   token = o.token;

@@ -5,3 +5,4 @@ pub mod Aborts
 pub mod Rounds
 pub mod Rotating
 pub mod LastSegment
+pub mod Idling

@@ -19,6 +19,7 @@ use Rattle.ssi_cli.specs.Meaning.Users.{last_after, last_by}
 use Rattle.ssi_cli.specs.Clauses.Leaving.{HasNoted}
 use Rattle.ssi_cli.specs.Clauses.Turns.{IsRunOf}
 use Rattle.ssi_cli.specs.Mirror.{last_at}
+use Rattle.ssi_data.specs.declared.tables.Tables.{Tables}
 use Rattle.ssi_data.specs.Clauses.Calls.{IsOwn, Makes, MakesQuietly}
 use Rattle.ssi_data.specs.Clauses.Turns.{HasCarriedOut}
 
@@ -251,9 +252,9 @@ module _ {T D : Type 0} {disk : Ghosts D} (dumps : Bool) (is_at : T → Course �
     if_one_ran (Some carried) serves = one_ran carried serves
 
     -- lines of it were carried out, and the table has noted them
-    pub some_ran : (was now : Option Users) (R : List Call → List Call → Type 0)
+    pub some_ran : (was now : Tables) (R : List Call → List Call → Type 0)
         → Makes dumps is_at sent stepped (λ calls made. HasCarriedOut dumps t was now calls made × R calls made)
-        → Makes dumps is_at old new (λ calls made. IsOwn bytes made calls × HasNoted was now made)
+        → Makes dumps is_at old new (λ calls made. IsOwn bytes made calls × HasNoted was.users now.users made)
     some_ran was now R makes = λ n began calls s.
         let first = Received t bytes ∷ Opened t ∷ [] in
         let (made, serves, (has, more)) = makes n began (first ++ calls) (received n began calls s) in
@@ -271,8 +272,8 @@ module _ {T D : Type 0} {disk : Ghosts D} (dumps : Bool) (is_at : T → Course �
               gone = closing_gone left_open t made first calls refl (not_open t calls (new_here n began calls s));
             },
             (λ u user e.
-                last_first u (closing left_open t made) first (last_at was u)
-                ∙ closing_last left_open u t made (last_at was u) ∙ has.noted u user e),
+                last_first u (closing left_open t made) first (last_at was.users u)
+                ∙ closing_last left_open u t made (last_at was.users u) ∙ has.noted u user e),
           ),
         )
       where

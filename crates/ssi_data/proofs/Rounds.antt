@@ -21,6 +21,7 @@ use Rattle.ssi_cli.specs.Meaning.Users.{Deed, Called, Aborted, calls_in}
 use Rattle.ssi_cli.specs.Clauses.Leaving.{AreAborts, HasForgotten, HasNoted, HasUsed, abort_calls}
 use Rattle.ssi_cli.specs.Clauses.Turns.{AreDone, AreDue, IsCalled, aborted, called}
 use Rattle.ssi_cli.specs.Mirror.{last_at}
+use Rattle.ssi_data.specs.declared.tables.Tables.{Tables}
 use Rattle.ssi_data.specs.Clauses.Calls.{Makes, MakesQuietly}
 use Rattle.ssi_data.specs.Clauses.Turns.{HasCarriedOut}
 use Rattle.ssi_data.specs.Clauses.Leaving.{HasAborted}
@@ -169,11 +170,12 @@ module _ {T D : Type 0} {disk : Ghosts D} (dumps : Bool) (is_at : T → Course �
   quietly_either law quiet (Ok x) users old new P Q Why ok err = quietly law quiet users old new P ok
   quietly_either law quiet (Err e) users old new P Q Why ok err = quietly law quiet users old new Q err.1
 
-  pub carries : CallsAreDeeds → (t : ℕ) (was now : Option Users) (old new : Server T D disk)
-      (R : List Call → List Call → Type 0) → is_some now ≡ is_some was
-      → Makes dumps is_at old new (λ calls made. HasCarriedOut dumps t was now calls made × R calls made) → GoesOn dumps is_at was old now new
+  pub carries : CallsAreDeeds → (t : ℕ) (was now : Tables) (old new : Server T D disk)
+      (R : List Call → List Call → Type 0) → is_some now.users ≡ is_some was.users
+      → Makes dumps is_at old new (λ calls made. HasCarriedOut dumps t was now calls made × R calls made)
+      → GoesOn dumps is_at was.users old now.users new
   carries law t was now old new R table makes =
-      by_calls law was now old new table
+      by_calls law was.users now.users old new table
       (λ n began calls s.
       let (made, on, (carried, more)) = makes n began calls s in (made, on, carried.noted))
 

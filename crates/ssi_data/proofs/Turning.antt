@@ -4,7 +4,7 @@ use Rattle.std.specs.Prelude.{◌==◌, not, ◌&&◌, ◌||◌, is_some, IsErr,
 use Rattle.std.specs.List.{AllByRecursion}
 use Rattle.std.specs.Result.{IsErrAnd}
 use Rattle.std.proofs.lemmas.Bool.{eq-eqb, both_ways, false≢true, and_parts, leb-true, le-leb}
-use Rattle.std.proofs.lemmas.Option.{none-some}
+use Rattle.std.proofs.lemmas.Option.{none-some, same_Some}
 use Rattle.std.proofs.lemmas.List.Elements.{All-head, All-tail}
 use Rattle.sqlite_disk.specs.declared.Disk.{Ghosts}
 use Rattle.ssi_store.specs.Meaning.Courses.{Course}
@@ -27,8 +27,10 @@ use Rattle.ssi_cli.specs.declared.users.Users.{Users}
 use Rattle.ssi_cli.specs.Meaning.Users.{session_in, is_it, is_used, last_by, last_after}
 use Rattle.ssi_cli.specs.Clauses.Leaving.{HasNoted}
 use Rattle.ssi_cli.specs.Clauses.Turns.{IsRunOf, Exchanged, HasUnsent, HasWaiting, IsFinished, HasAllSent, MayRun, WantsMore}
-use Rattle.ssi_cli.specs.Mirror.{last_in, last_at}
+use Rattle.ssi_cli.specs.Mirror.{last_at}
+use Rattle.ssi_data.specs.declared.tables.Tables.{Tables}
 use Rattle.ssi_data.specs.Clauses.Calls.{Makes, MakesQuietly}
+use Rattle.ssi_data.specs.Clauses.Timing.{IsTimed}
 use Rattle.ssi_data.specs.Clauses.Turns.{HasCarriedOut, HasReplied}
 use Rattle.ssi_data.proofs.Makings.{served_at, open_at}
 
@@ -106,7 +108,7 @@ last_with s (Ran u lines steps ∷ made) was now t more is =
 last_with s (Wrote u bytes ∷ made) was now t more is = last_with s made was now t more is
 last_with s (Closed u ∷ made) was now t more is = last_with s made was now t more is
 
-noted_both : (old mid new : Option Users) (calls later : List Call) → HasNoted old mid calls → HasNoted mid new later
+pub noted_both : (old mid new : Option Users) (calls later : List Call) → HasNoted old mid calls → HasNoted mid new later
     → HasNoted old new (later ++ calls)
 noted_both old mid new calls later first then = λ s t is.
     last_both s later calls (last_at old s)
@@ -119,13 +121,58 @@ only : (b : Bool) → b || false ≡ b
 only true = refl
 only false = refl
 
--- the table has noted the step of a line
-pub step_noted : (t : ℕ) (old new : Users) (step : Step) (session : Option (List ℕ)) → session_in step ≡ session
-    → ((s : List ℕ) → last_in new s ≡ cond (is_it s session) (Some t) (last_in old s))
-    → (s : List ℕ) (u : ℕ) → last_at (Some new) s ≡ Some u
-    → cond (is_it s (session_in step)) (Some t) (last_at (Some old) s) ≡ Some u
-step_noted t old new step session is noted = λ s u e.
-    ap (λ (o : Option (List ℕ)). cond (is_it s o) (Some t) (last_in old s)) is ∙ sym (noted s) ∙ e
+-- ---- when a session had its last command
+
+timed_both : (second : ℕ) (old mid new : Option Users) (calls later : List Call) → IsTimed second old mid calls
+    → IsTimed second mid new later → IsTimed second old new (later ++ calls)
+timed_both second old mid new calls later first then = λ s k e. by_later s k (then s k e)
+  where
+    by_calls : (s : List ℕ) (k : ℕ) → last_after s later None ≡ None
+        → (k ≡ second) ⊎ ((last_at old s ≡ Some k) × (last_after s calls None ≡ None))
+        → (k ≡ second) ⊎ ((last_at old s ≡ Some k) × (last_after s (later ++ calls) None ≡ None))
+    by_calls s k none (inl now) = inl now
+    by_calls s k none (inr (had, unused)) =
+        inr (had, last_both s later calls None ∙ ap (last_after s later) unused ∙ none)
+
+    by_later : (s : List ℕ) (k : ℕ) → (k ≡ second) ⊎ ((last_at mid s ≡ Some k) × (last_after s later None ≡ None))
+        → (k ≡ second) ⊎ ((last_at old s ≡ Some k) × (last_after s (later ++ calls) None ≡ None))
+    by_later s k (inl now) = inl now
+    by_later s k (inr (had, unused)) = by_calls s k unused (first s k had)
+
+-- one line was carried out
+timed_by : (s : List ℕ) (step : Step) (t second k : ℕ) (was : Option ℕ)
+    → cond (is_it s (session_in step)) (Some second) was ≡ Some k
+    → (k ≡ second) ⊎ ((was ≡ Some k) × (◌≡◌ {A = Option ℕ} (cond (is_it s (session_in step) || false) (Some t) None) None))
+timed_by s step t second k was e = by_use (is_it s (session_in step)) e
+  where
+    by_use : (used : Bool) → cond used (Some second) was ≡ Some k
+        → (k ≡ second) ⊎ ((was ≡ Some k) × (◌≡◌ {A = Option ℕ} (cond (used || false) (Some t) None) None))
+    by_use true e = inl (same_Some k second (sym e))
+    by_use false e = inr (e, refl)
+
+has_table : (o : Option Users) (s : List ℕ) (u : ℕ) → last_at o s ≡ Some u → is_some o ≡ true
+has_table None s u e = absurd (none-some u e)
+has_table (Some users) s u e = refl
+
+-- the table, if there is one, has noted the step of a line
+pub table_noted : (at : ℕ) (was prepared now : Option Users) (step : Step) (session : Option (List ℕ))
+    → is_some now ≡ is_some prepared → is_some prepared ≡ is_some was → (is_some was ≡ true → session_in step ≡ session)
+    → ((s : List ℕ) → last_at prepared s ≡ last_at was s)
+    → ((s : List ℕ) (u : ℕ) → last_at now s ≡ Some u → cond (is_it s session) (Some at) (last_at prepared s) ≡ Some u)
+    → (s : List ℕ) (u : ℕ) → last_at now s ≡ Some u → cond (is_it s (session_in step)) (Some at) (last_at was s) ≡ Some u
+table_noted at was prepared now step session still kept is same noted = λ s u e.
+    ap (λ (o : Option (List ℕ)). cond (is_it s o) (Some at) (last_at was s)) (is (sym kept ∙ sym still ∙ has_table now s u e))
+    ∙ ap (λ (o : Option ℕ). cond (is_it s session) (Some at) o) (sym (same s)) ∙ noted s u e
+
+-- no table has a session if there is none
+pub no_users : {P : Type 0} (a b : Option Users) → is_some a || is_some b ≡ false → (s : List ℕ) (u : ℕ) → last_at a s ≡ Some u → P
+no_users None b none s u e = nobody u e
+no_users (Some users) b none s u e = absurd (false≢true (sym none))
+
+pub no_times : {P : Type 0} (a b : Option Users) → is_some a || is_some b ≡ false → (s : List ℕ) (u : ℕ) → last_at b s ≡ Some u → P
+no_times None None none s u e = nobody u e
+no_times None (Some users) none s u e = absurd (false≢true (sym none))
+no_times (Some users) b none s u e = absurd (false≢true (sym none))
 
 -- ---- lines that are carried out
 
@@ -178,12 +225,15 @@ closed_after t made runs calls is opened =
     not_closed t runs calls (ap (λ (l : List Call). is_open t (l ++ calls)) (sym is) ∙ opened)
 
 -- lines were carried out, and then more of a connection that was open
-carried_on : (dumps : Bool) (t : ℕ) (was is now : Option Users) (calls runs later : List Call) → AllByRecursion (IsRunOf t) runs
-    → HasNoted was is runs → HasCarriedOut dumps t is now (runs ++ calls) later → HasCarriedOut dumps t was now calls (later ++ runs)
-carried_on dumps t was is now calls runs later are noted then = record {
+carried_on : (dumps : Bool) (t : ℕ) (was is now : Tables) (calls runs later : List Call) → AllByRecursion (IsRunOf t) runs
+    → HasNoted was.users is.users runs → is.second ≡ was.second → IsTimed was.second was.times is.times runs → HasCarriedOut dumps t is now (runs ++ calls) later → HasCarriedOut dumps t was now calls (later ++ runs)
+carried_on dumps t was is now calls runs later are noted clock timed then = record {
   runs = then.runs ++ runs;
   are = all_both (IsRunOf t) then.runs runs then.are are;
-  noted = noted_both was is now runs later noted then.noted;
+  noted = noted_both was.users is.users now.users runs later noted then.noted;
+  clock = then.clock ∙ clock;
+  timed = timed_both was.second was.times is.times now.times runs later timed
+      (subst (λ (k : ℕ). IsTimed k is.times now.times later) clock then.timed);
   ends = by_end then.ends;
 }
   where
@@ -204,39 +254,44 @@ carried_on dumps t was is now calls runs later are noted then = record {
 
 module _ {T D : Type 0} {disk : Ghosts D} (dumps : Bool) (is_at : T → Course → Type 0) (t : ℕ) where
   -- lines of the connection were carried out, and one at least if `May` holds
-  abbrev pub Carried : (May : Type 0) (was now : Option Users) (old new : Server T D disk) → Type 0
+  abbrev pub Carried : (May : Type 0) (was now : Tables) (old new : Server T D disk) → Type 0
   Carried May was now old new = Makes dumps is_at old new (λ calls made. HasCarriedOut dumps t was now calls made × (May → 0 < length made))
 
-  pub carried_none : (May : Type 0) (users : Option Users) (old new : Server T D disk) → (May → ⊥)
+  pub carried_none : (May : Type 0) (users : Tables) (old new : Server T D disk) → (May → ⊥)
       → ((n : ℕ) (began : Began) (calls : List Call) → Serves dumps is_at n began old calls → Serves dumps is_at n began new calls)
       → Carried May users users old new
   carried_none May users old new idle same = λ n began calls s. (
     [],
     same n began calls s,
-    (record { runs = []; are = tt; noted = λ s u e. e; ends = inl refl }, λ may. absurd (idle may)),
+    (record { runs = []; are = tt; noted = λ s u e. e; clock = refl; timed = λ s k e. inr (e, refl); ends = inl refl }, λ may. absurd (idle may)),
   )
 
   -- the table may have noted what is the same for clauses
-  pub carried_same : (May : Type 0) (was now : Option Users) (old new : Server T D disk) → (May → ⊥)
-      → HasNoted was now []
+  pub carried_same : (May : Type 0) (was now : Tables) (old new : Server T D disk) → (May → ⊥)
+      → HasNoted was.users now.users [] → now.second ≡ was.second → IsTimed was.second was.times now.times []
       → ((n : ℕ) (began : Began) (calls : List Call) → Serves dumps is_at n began old calls → Serves dumps is_at n began new calls)
       → Carried May was now old new
-  carried_same May was now old new idle noted same = λ n began calls s. (
+  carried_same May was now old new idle noted clock timed same = λ n began calls s. (
     [],
     same n began calls s,
-    (record { runs = []; are = tt; noted = noted; ends = inl refl }, λ may. absurd (idle may)),
+    (record { runs = []; are = tt; noted = noted; clock = clock; timed = timed; ends = inl refl }, λ may. absurd (idle may)),
   )
 
   -- a line was carried out, and its reply was lost or wasn't
-  pub carried_step : (May : Type 0) (was now : Option Users) (old new : Server T D disk) (carried : CarriedLine)
+  pub carried_step : (May : Type 0) (was now : Tables) (old new : Server T D disk) (carried : CarriedLine)
       (x : Buffers) → buffers_of (hub_of old) t ≡ Some x
       → ((n : ℕ) (began : Began) (calls : List Call) → Serves dumps is_at n began old calls
       → HasStepped dumps is_at n began t calls old new carried)
       → ((line : List ℕ) (step : Step)
       → IsLineStep dumps is_at (buffers_of (hub_of old) t) (store_of old) carried line step (store_of new)
-      → (s : List ℕ) (u : ℕ) → last_at now s ≡ Some u → cond (is_it s (session_in step)) (Some t) (last_at was s) ≡ Some u)
+      → (s : List ℕ) (u : ℕ) → last_at now.users s ≡ Some u → cond (is_it s (session_in step)) (Some t) (last_at was.users s) ≡ Some u)
+      → now.second ≡ was.second
+      → ((line : List ℕ) (step : Step)
+      → IsLineStep dumps is_at (buffers_of (hub_of old) t) (store_of old) carried line step (store_of new)
+      → (s : List ℕ) (k : ℕ) → last_at now.times s ≡ Some k
+      → cond (is_it s (session_in step)) (Some was.second) (last_at was.times s) ≡ Some k)
       → Carried May was now old new
-  carried_step May was now old new carried x has steps notes = λ n began calls s.
+  carried_step May was now old new carried x has steps notes clock times = λ n began calls s.
       let (line, step, is, serves) = steps n began calls s in
       let opened = open_at dumps is_at old t x has n began calls s in
       let now_is = with_step t (lost_by carried.outcome) line step calls opened in
@@ -244,9 +299,15 @@ module _ {T D : Type 0} {disk : Ghosts D} (dumps : Bool) (is_at : T → Course �
     where
       noted_runs : (line : List ℕ) (step : Step)
           → IsLineStep dumps is_at (buffers_of (hub_of old) t) (store_of old) carried line step (store_of new)
-          → HasNoted was now (ran t line step ∷ [])
+          → HasNoted was.users now.users (ran t line step ∷ [])
       noted_runs line step is = λ s u e.
-          ap (λ o. cond o (Some t) (last_at was s)) (only (is_it s (session_in step))) ∙ notes line step is s u e
+          ap (λ o. cond o (Some t) (last_at was.users s)) (only (is_it s (session_in step))) ∙ notes line step is s u e
+
+      timed_runs : (line : List ℕ) (step : Step)
+          → IsLineStep dumps is_at (buffers_of (hub_of old) t) (store_of old) carried line step (store_of new)
+          → IsTimed was.second was.times now.times (ran t line step ∷ [])
+      timed_runs line step is = λ s k e.
+          timed_by s step t was.second k (last_at was.times s) (times line step is s k e)
 
       by_loss : (n : ℕ) (began : Began) (calls : List Call) (line : List ℕ) (step : Step)
           → IsLineStep dumps is_at (buffers_of (hub_of old) t) (store_of old) carried line step (store_of new)
@@ -261,6 +322,8 @@ module _ {T D : Type 0} {disk : Ghosts D} (dumps : Bool) (is_at : T → Course �
             runs = ran t line step ∷ [];
             are = (refl, tt);
             noted = noted_runs line step is;
+            clock = clock;
+            timed = timed_runs line step is;
             ends = inr (refl, inr (one_line t line step));
           },
           λ may. omega arith,
@@ -270,19 +333,26 @@ module _ {T D : Type 0} {disk : Ghosts D} (dumps : Bool) (is_at : T → Course �
         ran t line step ∷ [],
         serves,
         (
-          record { runs = ran t line step ∷ []; are = (refl, tt); noted = noted_runs line step is; ends = inl refl },
+          record {
+            runs = ran t line step ∷ [];
+            are = (refl, tt);
+            noted = noted_runs line step is;
+            clock = clock;
+            timed = timed_runs line step is;
+            ends = inl refl;
+          },
           λ may. omega arith,
         ),
       )
 
   -- its table can't hold the session of the line that waits
-  pub carried_closed : (May : Type 0) (was now : Option Users) (old new : Server T D disk) (x : Buffers)
+  pub carried_closed : (May : Type 0) (was now : Tables) (old new : Server T D disk) (x : Buffers)
       → buffers_of (hub_of old) t ≡ Some x → has_line x.waiting ≡ true
       → ((n : ℕ) (began : Began) (calls : List Call) → Serves dumps is_at n began old calls
       → Serves dumps is_at n began new (with_call (Closed t) calls))
-      → HasNoted was now []
+      → HasNoted was.users now.users [] → now.second ≡ was.second → IsTimed was.second was.times now.times []
       → Carried May was now old new
-  carried_closed May was now old new x has waits closes noted = λ n began calls s.
+  carried_closed May was now old new x has waits closes noted clock timed = λ n began calls s.
       let hub = hub_of old in
       let (left, served, so, opened) = served_at dumps (buffers_of hub) hub.next (is_stopped hub) calls t x s.stands has in (
         Closed t ∷ [],
@@ -293,19 +363,21 @@ module _ {T D : Type 0} {disk : Ghosts D} (dumps : Bool) (is_at : T → Course �
             runs = [];
             are = tt;
             noted = noted;
+            clock = clock;
+            timed = timed;
             ends = inr (refl, inl (left, x.unsent, served, ap (λ (l : List ℕ). has_line l) (sym so) ∙ waits));
           },
           λ may. omega arith,
         ),
       )
 
-  pub carried_if : (May More : Type 0) (was now : Option Users) (old new : Server T D disk) → (May → More)
+  pub carried_if : (May More : Type 0) (was now : Tables) (old new : Server T D disk) → (May → More)
       → Carried More was now old new → Carried May was now old new
   carried_if May More was now old new more first = λ n began calls s.
       let (made, serves, (carried, some)) = first n began calls s in
       (made, serves, (carried, λ may. some (more may)))
 
-  pub carried_both : (May First Then : Type 0) (was is now : Option Users) (old mid new : Server T D disk)
+  pub carried_both : (May First Then : Type 0) (was is now : Tables) (old mid new : Server T D disk)
       → (May → First ⊎ Then) → Carried First was is old mid
       → ((n : ℕ) (began : Began) (calls : List Call) → Serves dumps is_at n began mid calls → is_open t calls ≡ true)
       → Carried Then is now mid new → Carried May was now old new
@@ -329,52 +401,57 @@ module _ {T D : Type 0} {disk : Ghosts D} (dumps : Bool) (is_at : T → Course �
           let runs = subst (λ (l : List Call). AllByRecursion (IsRunOf t) l) (sym same) carried.are in (
             later ++ made,
             subst (λ (l : List Call). Serves dumps is_at n began new l) (sym (append_assoc later made calls)) on,
-            (carried_on dumps t was is now calls made later runs carried.noted goes, λ may. more made later some others (which may)),
+            (carried_on dumps t was is now calls made later runs carried.noted carried.clock carried.timed goes, λ may. more made later some others (which may)),
           )
       by_end n began calls made serves carried some (inr (same, why)) =
           absurd (closed_after t made carried.runs calls same (opened n began (made ++ calls) serves))
 
   -- a line that may be carried out is
-  pub carried_maybe : (was now : Option Users) (old new : Server T D disk) (o : Option CarriedLine)
+  pub carried_maybe : (was now : Tables) (old new : Server T D disk) (o : Option CarriedLine)
       → MayRun (is_stopped (hub_of old)) (buffers_of (hub_of old) t)
       → is_some o ≡ may_step (is_stopped (hub_of old)) (buffers_of (hub_of old) t)
       → ((n : ℕ) (began : Began) (calls : List Call) → Serves dumps is_at n began old calls
       → MatchOption o (Serves dumps is_at n began new calls) (λ carried. HasStepped dumps is_at n began t calls old new carried))
       → ((carried : CarriedLine) (line : List ℕ) (step : Step)
       → IsLineStep dumps is_at (buffers_of (hub_of old) t) (store_of old) carried line step (store_of new)
-      → (s : List ℕ) (u : ℕ) → last_at now s ≡ Some u → cond (is_it s (session_in step)) (Some t) (last_at was s) ≡ Some u)
+      → (s : List ℕ) (u : ℕ) → last_at now.users s ≡ Some u → cond (is_it s (session_in step)) (Some t) (last_at was.users s) ≡ Some u)
+      → now.second ≡ was.second
+      → ((carried : CarriedLine) (line : List ℕ) (step : Step)
+      → IsLineStep dumps is_at (buffers_of (hub_of old) t) (store_of old) carried line step (store_of new)
+      → (s : List ℕ) (k : ℕ) → last_at now.times s ≡ Some k
+      → cond (is_it s (session_in step)) (Some was.second) (last_at was.times s) ≡ Some k)
       → Carried (Unit {0}) was now old new
-  carried_maybe was now old new None may when serves notes =
+  carried_maybe was now old new None may when serves notes clock times =
       absurd (false≢true (when ∙ steps_if (is_stopped (hub_of old)) (buffers_of (hub_of old) t) may))
-  carried_maybe was now old new (Some carried) may when serves notes =
+  carried_maybe was now old new (Some carried) may when serves notes clock times =
       let (b, has, goes, waits, short) = has_run (is_stopped (hub_of old)) (buffers_of (hub_of old) t) may in
-      carried_step (Unit {0}) was now old new carried b has serves (notes carried)
+      carried_step (Unit {0}) was now old new carried b has serves (notes carried) clock (times carried)
 
-  pub if_ok : (was now : Option Users) (old new : Server T D disk) → Carried (Unit {0}) was now old new
+  pub if_ok : (was now : Tables) (old new : Server T D disk) → Carried (Unit {0}) was now old new
       → Makes dumps is_at old new (λ calls made. HasCarriedOut dumps t was now calls made × (0 < length made))
   if_ok was now old new first = λ n began calls s.
       let (made, serves, (carried, some)) = first n began calls s in (made, serves, (carried, some tt))
 
-  pub if_err : (was now : Option Users) (old new : Server T D disk) → Carried ⊥ was now old new
+  pub if_err : (was now : Tables) (old new : Server T D disk) → Carried ⊥ was now old new
       → Makes dumps is_at old new (λ calls made. HasCarriedOut dumps t was now calls made × Unit {0})
   if_err was now old new first = λ n began calls s.
       let (made, serves, (carried, some)) = first n began calls s in (made, serves, (carried, tt))
 
   -- the same of a line whose result is passed on
-  pub if_passed : {A E : Type 0} (r : Result A E) (May : Type 0) (was now : Option Users) (old new : Server T D disk)
+  pub if_passed : {A E : Type 0} (r : Result A E) (May : Type 0) (was now : Tables) (old new : Server T D disk)
       → IsErr r → Carried ⊥ was now old new
       → Makes dumps is_at old new (λ calls made. HasCarriedOut dumps t was now calls made × (May → OnOk r (0 < length made)))
   if_passed (Ok x) May was now old new is first = absurd (false≢true is)
   if_passed (Err e) May was now old new is first = λ n began calls s.
       let (made, serves, (carried, some)) = first n began calls s in (made, serves, (carried, λ may. tt))
 
-  pub of_ok : (was now : Option Users) (old new : Server T D disk)
+  pub of_ok : (was now : Tables) (old new : Server T D disk)
       → Makes dumps is_at old new (λ calls made. HasCarriedOut dumps t was now calls made × (0 < length made))
       → Carried (Unit {0}) was now old new
   of_ok was now old new first = λ n began calls s.
       let (made, serves, (carried, some)) = first n began calls s in (made, serves, (carried, λ may. some))
 
-  pub of_err : (was now : Option Users) (old new : Server T D disk)
+  pub of_err : (was now : Tables) (old new : Server T D disk)
       → Makes dumps is_at old new (λ calls made. HasCarriedOut dumps t was now calls made × Unit {0}) → Carried ⊥ was now old new
   of_err was now old new first = λ n began calls s.
       let (made, serves, (carried, none)) = first n began calls s in (made, serves, (carried, λ may. absurd may))

@@ -1,6 +1,7 @@
 -- What clauses see of a server, and of the sockets of its connections.
 use Rattle.std.specs.Prelude.{ℕ, Bool, if◌then◌else◌, [], Option, Some, None}
 use Rattle.sqlite_disk.specs.declared.Disk.{Ghosts}
+use Rattle.std.specs.Option.{option_map}
 use Rattle.adya_keys.specs.Meaning.Keys.{Bytes}
 use Rattle.ssi_store.specs.Meaning.Courses.{Course}
 use Rattle.ssi_hub.specs.Clauses.Buffers.{Buffers}
@@ -26,7 +27,19 @@ module _ {T D : Type 0} {disk : Ghosts D} where
 
   -- who has used each session last, as far as that is kept
   abbrev pub users_of : Clients T D disk → Option Users
-  users_of clients = clients.users
+  users_of clients = clients.tables.users
+
+  -- in which second each session had its last command, as far as that is kept
+  abbrev pub times_of : Clients T D disk → Option Users
+  times_of clients = clients.tables.times
+
+  -- the second that it was when it was looked last
+  abbrev pub second_of : Clients T D disk → ℕ
+  second_of clients = clients.tables.second
+
+  -- for how many seconds a session may have no command, if there is a bound
+  abbrev pub limit_of : Clients T D disk → Option ℕ
+  limit_of clients = option_map (λ idle. idle.limit) clients.idle
 
   -- the log is left once it has more bytes
   abbrev pub due_of : Clients T D disk → ℕ

@@ -1,6 +1,6 @@
 //! The connections that use a server, and their sockets.
 
-ghost use Rattle.std.specs.Prelude.{◌≡◌, ◌+◌, ◌-◌, ◌/◌, ◌^◌, ℕ, List, [], None, true, false, is_some, min, nat_lt, IsTrue, OnOk, OnErr, IfOk, IfErr};
+ghost use Rattle.std.specs.Prelude.{◌≡◌, ◌+◌, ◌-◌, ◌/◌, ◌^◌, ℕ, List, [], None, Some, true, false, is_some, min, nat_lt, IsTrue, OnOk, OnErr, IfOk, IfErr};
 ghost use Rattle.adya_keys.specs.Meaning.Keys.{Bytes};
 ghost use Rattle.ssi_store.specs.Meaning.Courses.{Course, txn_in};
 ghost use Rattle.ssi_hub.specs.Clauses.Calls.{Call};
@@ -14,13 +14,16 @@ ghost use Rattle.ssi_cli.specs.Clauses.Serving.{aborts};
 ghost use Rattle.ssi_cli.specs.Clauses.Turns.{called};
 ghost use Rattle.ssi_data.specs.Clauses.Aborting.{HasAbortedOpen};
 ghost use Rattle.ssi_data.specs.Clauses.Calls.{IsCollection, Makes};
+ghost use Rattle.ssi_data.specs.Clauses.Idling.{HasAbortedIdle, IsIdleSince};
 ghost use Rattle.ssi_data.specs.Clauses.Rotations.{due_len};
 ghost use Rattle.ssi_data.specs.Clauses.Rounds.{HasDone};
 
 use crate::aborting::abort_open;
 use crate::collecting::{Upkeep, tidy};
+use crate::idle::{Idle, abort_idle};
 use crate::leaving::abort_all;
 use crate::segment::Next;
+use crate::tables::Tables;
 use crate::turns::{carry_out, receive, reply, send};
 use mio::event::Event;
 use mio::net::{UnixListener, UnixStream};
@@ -38,13 +41,17 @@ use std::time::Duration;
 /// After this many seconds it is tried again to have the file of the log grow.
 const ROOM_AGAIN: u64 = 1;
 
+/// After this many seconds without an event it is looked which sessions had no command.
+const IDLE_AGAIN: u64 = 1;
+
 /// A server, with the sockets of its connections.
 #[derive(Drop)]
 pub struct Clients<T: Drop, D: Disk + Drop> {
     server: Server<T, D>,
     peers: Peers,
-    // kept if sessions are aborted when a connection is closed
-    users: Option<Users>,
+    tables: Tables,
+    // for how long a session may have no command, if there is a bound
+    idle: Option<Idle>,
     // why the file of the log couldn't grow in the last round
     full: Option<io::Error>,
     // whether that was said
@@ -58,14 +65,16 @@ pub struct Clients<T: Drop, D: Disk + Drop> {
 }
 
 impl<T: ProtocolStore + Drop, D: Disk + Drop> Clients<T, D> {
-    ghost use Rattle.ssi_data.specs.Mirror.{GoOn, due_of, server_of, users_of};
+    ghost use Rattle.ssi_data.specs.Mirror.{GoOn, due_of, limit_of, second_of, server_of, times_of, users_of};
 
-    /// Those of a server that has no connection yet. Its segment is left once its log has more than `most` bytes, and more than
+    /// Those of a server that has no connection yet. Sessions that had no command for longer than `idle` says are aborted; one that
+    /// had none yet isn't, also if it has a transaction. Its segment is left once its log has more than `most` bytes, and more than
     /// twice as many as its loads, which have `loaded` bytes.
     pub fn new(
         alloc: Global,
         server: Server<T, D>,
         at_close: AtClose,
+        idle: Option<Idle>,
         most: usize,
         loaded: usize,
     ) -> Clients<T, D>
@@ -79,7 +88,12 @@ impl<T: ProtocolStore + Drop, D: Disk + Drop> Clients<T, D> {
         Clients {
             server,
             peers: Peers::new(alloc),
-            users: users_for(alloc, at_close),
+            tables: Tables {
+                users: users_for(alloc, at_close),
+                times: times_for(alloc, &idle),
+                second: 0,
+            },
+            idle,
             full: None,
             is_told: false,
             most,
@@ -155,7 +169,10 @@ impl<T: ProtocolStore + Drop, D: Disk + Drop> Clients<T, D> {
         if self.full.is_some() {
             return Some(Duration::from_secs(ROOM_AGAIN));
         }
-        self.peers.longest_wait()
+        match self.peers.longest_wait() {
+            None if self.idle.is_some() => Some(Duration::from_secs(IDLE_AGAIN)),
+            wait => wait,
+        }
     }
 
     /// Returns why the file of the log can't grow, if that wasn't said before.
@@ -241,7 +258,7 @@ impl<T: ProtocolStore + Drop, D: Disk + Drop> Clients<T, D> {
         }
         let _ = receive(token, peer, &mut self.server, room);
         calls_are_deeds();
-        let carried = carry_out(alloc, token, &mut self.users, &mut self.server);
+        let carried = carry_out(alloc, token, &mut self.tables, &mut self.server);
         self.unless_full(carried)
     }
 
@@ -249,6 +266,7 @@ impl<T: ProtocolStore + Drop, D: Disk + Drop> Clients<T, D> {
     fn unless_full(&mut self, done: Result<(), LogFault>) -> Result<(), LogFault>
         ensures server { server_of self.new ≡ server_of self.old }
         ensures users { users_of self.new ≡ users_of self.old }
+        ensures second { second_of self.new ≡ second_of self.old }
         ensures fault { IfErr result (λ fault. (done ≡ Err fault) × (is_full fault ≡ false)) }
     {
         match done {
@@ -331,7 +349,7 @@ impl<T: ProtocolStore + Drop, D: Disk + Drop> Clients<T, D> {
         ensures failed { OnErr result (has_failed (server_of self.new) ≡ true) }
     {
         aborts_are_deeds();
-        match abort_all(alloc, token, &mut self.users, &mut self.server) {
+        match abort_all(alloc, token, &mut self.tables.users, &mut self.server) {
             Ok(done) => {
                 self.peers.end_turn(index, !done, false);
                 Ok(())
@@ -343,6 +361,24 @@ impl<T: ProtocolStore + Drop, D: Disk + Drop> Clients<T, D> {
         }
     }
 
+    /// Looks which second it is, and aborts the sessions that had no command for longer than they may.
+    pub(crate) fn end_idle(&mut self, rt: &HostRuntime) -> Result<(), LogFault>
+        ensures on { GoOn T.keeps T.is_at self.old self.new }
+        ensures aborts { (limit : ℕ) → limit_of self.old ≡ Some limit
+            → HasAbortedIdle T.keeps T.is_at (IsIdleSince limit (second_of self.new) (times_of self.old))
+            (users_of self.old) (users_of self.new) (server_of self.old) (server_of self.new) }
+        ensures none { limit_of self.old ≡ None → self.new ≡ self.old }
+        ensures failed { OnErr result (has_failed (server_of self.new) ≡ true) }
+    {
+        calls_are_deeds();
+        let Some(idle) = &mut self.idle else {
+            return Ok(());
+        };
+        self.tables.second = idle.second(rt, self.tables.second);
+        let done = abort_idle(rt.alloc(), idle, &mut self.tables, &mut self.server);
+        self.unless_full(done)
+    }
+
     /// Has the store drop versions that nothing needs any more, if it is time for it.
     pub(crate) fn tidy(&mut self, alloc: Global) -> Result<(), LogFault>
         ensures on { GoOn T.keeps T.is_at self.old self.new }
@@ -350,7 +386,7 @@ impl<T: ProtocolStore + Drop, D: Disk + Drop> Clients<T, D> {
         ensures failed { OnErr result (has_failed (server_of self.new) ≡ true) }
     {
         calls_are_deeds();
-        let done = tidy(alloc, &mut self.upkeep, &mut self.users, &mut self.server);
+        let done = tidy(alloc, &mut self.upkeep, &mut self.tables, &mut self.server);
         self.unless_full(done)
     }
 
@@ -404,6 +440,14 @@ impl<T: ProtocolStore + Drop, D: Disk + Drop> Clients<T, D> {
         if !self.peers.add(token, stream, registry) {
             self.server.closed(token);
         }
+    }
+}
+
+/// Returns a table of when sessions had their last command, if there is a bound on that.
+fn times_for(alloc: Global, idle: &Option<Idle>) -> Option<Users> {
+    match idle {
+        Some(_) => Some(Users::new(alloc)),
+        None => None,
     }
 }
 

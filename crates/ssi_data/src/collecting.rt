@@ -6,9 +6,9 @@ ghost use Rattle.ssi_durable.specs.Mirror.Servers.{has_failed, commits_of};
 ghost use Rattle.ssi_cli.specs.Clauses.Leaving.{HasNoted};
 ghost use Rattle.ssi_data.specs.Clauses.Calls.{IsCollection, Makes};
 
-use crate::turns::{carry_out, hand_on};
+use crate::own_lines::carry_out_own;
+use crate::tables::Tables;
 use sqlite_disk::Disk;
-use ssi_cli::Users;
 use ssi_cli::laws::calls_are_deeds;
 use ssi_durable::Server;
 use ssi_line::ProtocolStore;
@@ -34,14 +34,15 @@ pub(crate) struct Upkeep {
 pub(crate) fn tidy<T: ProtocolStore + Drop, D: Disk + Drop>(
     alloc: Global,
     upkeep: &mut Upkeep,
-    users: &mut Option<Users>,
+    tables: &mut Tables,
     server: &mut Server<T, D>,
 ) -> Result<(), LogFault>
     ensures tidied { Makes T.keeps T.is_at server.old server.new
-        (λ calls made. IsCollection made calls × HasNoted users.old users.new made) }
+        (λ calls made. IsCollection made calls × HasNoted tables.old.users tables.new.users made) }
     // Nothing is done before it is time to look.
     ensures early { commits_of server.old < upkeep.old.commits + 10000 → server.new ≡ server.old }
-    ensures table { is_some users.new ≡ is_some users.old }
+    ensures times { tables.new.times ≡ tables.old.times }
+    ensures table { is_some tables.new.users ≡ is_some tables.old.users }
     ensures fault { IfErr result (λ fault. is_full fault ≡ false → has_failed server.new ≡ true) }
 {
     let commits = server.commits();
@@ -54,31 +55,10 @@ pub(crate) fn tidy<T: ProtocolStore + Drop, D: Disk + Drop>(
     if versions < upkeep.versions.saturating_mul(2) {
         return Ok(());
     }
-    let done = collect(alloc, users, server);
+    let done = carry_out_own(alloc, b"collect\n", tables, server);
     upkeep.versions = server.versions();
-    done
-}
-
-/// Carries out `collect`, as the line of a connection of its own, to which nothing is written. It isn't carried out if memory
-/// runs out. `Full` if there is no room in the log for it, and the file can't grow. After any other fault the log has failed.
-fn collect<T: ProtocolStore + Drop, D: Disk + Drop>(
-    alloc: Global,
-    users: &mut Option<Users>,
-    server: &mut Server<T, D>,
-) -> Result<(), LogFault>
-    ensures collected { Makes T.keeps T.is_at server.old server.new
-        (λ calls made. IsCollection made calls × HasNoted users.old users.new made) }
-    ensures table { is_some users.new ≡ is_some users.old }
-    ensures fault { IfErr result (λ fault. is_full fault ≡ false → has_failed server.new ≡ true) }
-{
-    calls_are_deeds();
-    let Ok(token) = server.opened(alloc) else {
-        return Ok(());
-    };
-    if hand_on(token, b"collect\n", server).is_err() {
-        return Ok(());
+    match done {
+        Ok(_) => Ok(()),
+        Err(fault) => Err(fault),
     }
-    let done = carry_out(alloc, token, users, server);
-    server.closed(token);
-    done
 }

@@ -10,7 +10,6 @@ use mio::{Events, Poll};
 use sqlite_disk::Disk;
 use ssi_cli::ROOM;
 use ssi_line::ProtocolStore;
-use std::alloc::Global;
 
 /// Accepts connections and carries out the lines of all of them, one line at a time, in the order in which connections are
 /// ready. In a round each connection that is ready carries out up to 256 lines; then all lines that count are put on the disk
@@ -20,7 +19,7 @@ use std::alloc::Global;
 /// the next segment is to be begun. After `Full` call it again: meanwhile nothing is lost, and no line is carried out but
 /// `stop`. After `Rotate` call it again, too, once [`rotate`](crate::rotate) has returned. After the others it may not go on.
 pub fn serve<T: ProtocolStore + Drop, D: Disk + Drop>(
-    alloc: Global,
+    rt: &HostRuntime,
     poll: &mut Poll,
     listener: &UnixListener,
     events: &mut Events,
@@ -29,6 +28,7 @@ pub fn serve<T: ProtocolStore + Drop, D: Disk + Drop>(
     ensures on { GoOn T.keeps T.is_at clients.old clients.new }
     ensures halted { HasHalted result (server_of clients.new) }
 {
+    let alloc = rt.alloc();
     let mut room = [0u8; ROOM];
     for _ in 0..u64::MAX {
         let Ok(()) = poll.poll(events, clients.longest_wait()) else {
@@ -42,6 +42,9 @@ pub fn serve<T: ProtocolStore + Drop, D: Disk + Drop>(
             return Halt::Stopped;
         }
         if let Err(fault) = clients.end_all(alloc) {
+            return Halt::Failed(fault);
+        }
+        if let Err(fault) = clients.end_idle(rt) {
             return Halt::Failed(fault);
         }
         if let Err(fault) = clients.tidy(alloc) {

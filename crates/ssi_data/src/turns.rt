@@ -13,10 +13,12 @@ ghost use Rattle.ssi_cli.specs.Clauses.Turns.{Exchanged, MayRun, WantsMore, HasU
 ghost use Rattle.ssi_cli.specs.Mirror.{stream_of, input_of, may_read, is_due};
 ghost use Rattle.ssi_data.specs.Clauses.Calls.{Makes, MakesQuietly};
 ghost use Rattle.ssi_data.specs.Clauses.Turns.{IsDropped, HasCarriedOut, HasReplied};
+ghost use Rattle.ssi_data.specs.Clauses.Timing.{is_noting};
 ghost use Rattle.ssi_data.specs.Mirror.{to_send};
 
+use crate::tables::Tables;
 use sqlite_disk::Disk;
-use ssi_cli::{Closing, Input, Peer, Sent, Stream, Users};
+use ssi_cli::{Closing, Input, Peer, Sent, Stream};
 use ssi_durable::Server;
 use ssi_line::ProtocolStore;
 use ssi_log::LogFault;
@@ -79,28 +81,28 @@ pub(crate) fn hand_on<T: ProtocolStore + Drop, D: Disk + Drop>(
     }
 }
 
-/// Carries out the connection's lines that wait, as many as a turn has. Notes of each that the connection sent it, if there is
-/// a table of that. If memory runs out for a line or for its reply, the connection is closed.
+/// Carries out the connection's lines that wait, as many as a turn has. Notes of each which session it is a command of, as far
+/// as there are tables of that. If memory runs out for a line or for its reply, the connection is closed.
 ///
 /// `Full` if there is no room in the log for the next line, and the file can't grow: the line waits. After any other fault the
 /// log has failed.
 pub fn carry_out<T: ProtocolStore + Drop, D: Disk + Drop>(
     alloc: Global,
     token: u64,
-    users: &mut Option<Users>,
+    tables: &mut Tables,
     server: &mut Server<T, D>,
 ) -> Result<(), LogFault>
     ensures carried { Makes T.keeps T.is_at server.old server.new (λ calls made.
-        HasCarriedOut T.keeps token users.old users.new calls made
+        HasCarriedOut T.keeps token tables.old tables.new calls made
         × (MayRun (is_stopped (hub_of server.old)) (buffers_of (hub_of server.old) token) → OnOk result (0 < length made))) }
-    ensures table { is_some users.new ≡ is_some users.old }
+    ensures table { is_some tables.new.users ≡ is_some tables.old.users }
     ensures fault { IfErr result (λ fault. is_full fault ≡ false → has_failed server.new ≡ true) }
 {
     for _count in 0..MOST_LINES {
         if !server.wants_run(token) {
             return Ok(());
         }
-        carry_out_line(alloc, token, users, server)?;
+        carry_out_line(alloc, token, tables, server)?;
     }
     Ok(())
 }
@@ -109,19 +111,19 @@ pub fn carry_out<T: ProtocolStore + Drop, D: Disk + Drop>(
 fn carry_out_line<T: ProtocolStore + Drop, D: Disk + Drop>(
     alloc: Global,
     token: u64,
-    users: &mut Option<Users>,
+    tables: &mut Tables,
     server: &mut Server<T, D>,
 ) -> Result<(), LogFault>
     requires { MayRun (is_stopped (hub_of server.old)) (buffers_of (hub_of server.old) token) }
     ensures carried { Makes T.keeps T.is_at server.old server.new (λ calls made.
-        HasCarriedOut T.keeps token users.old users.new calls made × OnOk result (0 < length made)) }
-    ensures table { is_some users.new ≡ is_some users.old }
+        HasCarriedOut T.keeps token tables.old tables.new calls made × OnOk result (0 < length made)) }
+    ensures table { is_some tables.new.users ≡ is_some tables.old.users }
     ensures fault { IfErr result (λ fault. is_full fault ≡ false → has_failed server.new ≡ true) }
 {
-    match users {
-        Some(users) => carry_out_noted(alloc, token, users, server),
-        None => carry_out_plain(alloc, token, server),
+    if !tables.is_noting() {
+        return carry_out_plain(alloc, token, server);
     }
+    carry_out_noted(alloc, token, tables, server)
 }
 
 fn carry_out_plain<T: ProtocolStore + Drop, D: Disk + Drop>(
@@ -130,8 +132,8 @@ fn carry_out_plain<T: ProtocolStore + Drop, D: Disk + Drop>(
     server: &mut Server<T, D>,
 ) -> Result<(), LogFault>
     requires { MayRun (is_stopped (hub_of server.old)) (buffers_of (hub_of server.old) token) }
-    ensures carried { Makes T.keeps T.is_at server.old server.new (λ calls made.
-        HasCarriedOut T.keeps token None None calls made × OnOk result (0 < length made)) }
+    ensures carried { (tables : Tables) → is_noting tables ≡ false → Makes T.keeps T.is_at server.old server.new (λ calls made.
+        HasCarriedOut T.keeps token tables tables calls made × OnOk result (0 < length made)) }
     ensures fault { IfErr result (λ fault. is_full fault ≡ false → has_failed server.new ≡ true) }
 {
     match server.step(alloc, token) {
@@ -144,24 +146,25 @@ fn carry_out_plain<T: ProtocolStore + Drop, D: Disk + Drop>(
 fn carry_out_noted<T: ProtocolStore + Drop, D: Disk + Drop>(
     alloc: Global,
     token: u64,
-    users: &mut Users,
+    tables: &mut Tables,
     server: &mut Server<T, D>,
 ) -> Result<(), LogFault>
     requires { MayRun (is_stopped (hub_of server.old)) (buffers_of (hub_of server.old) token) }
     ensures carried { Makes T.keeps T.is_at server.old server.new (λ calls made.
-        HasCarriedOut T.keeps token (Some users.old) (Some users.new) calls made × OnOk result (0 < length made)) }
+        HasCarriedOut T.keeps token tables.old tables.new calls made × OnOk result (0 < length made)) }
+    ensures table { is_some tables.new.users ≡ is_some tables.old.users }
     ensures fault { IfErr result (λ fault. is_full fault ≡ false → has_failed server.new ≡ true) }
 {
     let Some(line) = server.next_line(token) else {
         return Ok(());
     };
-    let Ok(session) = users.prepare(alloc, token, line) else {
+    let Ok(noting) = tables.prepare(alloc, token, line) else {
         server.closed(token);
         return Ok(());
     };
     match server.step(alloc, token) {
         Ok(Some(_)) => {
-            users.note_used(token, session);
+            tables.note(token, noting);
             Ok(())
         }
         Ok(None) => Ok(()),

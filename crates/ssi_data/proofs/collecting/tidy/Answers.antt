@@ -5,10 +5,15 @@ pub returns-then-versions-saturating_mul-clause-tidied : goal.returns-then-versi
 returns-then-versions-saturating_mul-clause-tidied g c =
     let dumps = g.T.ProtocolStore.keeps in
     let is_at = g.T.AnyStore.is_at in
-    none_noted dumps is_at c.calls_are_deeds.ensures.quiet c.args.users.now c.args.server.now c.versions-versions.new.self _
+    none_noted dumps is_at c.calls_are_deeds.ensures.quiet c.args.tables.now.users c.args.server.now c.versions-versions.new.self _
     (none_opened dumps is_at c.args.server.now c.versions-versions.new.self _ c.versions-versions.ensures.serves)
 
-pub returns-clause-tidied : goal.returns-clause-tidied
-returns-clause-tidied g c =
-    made_between g.T.ProtocolStore.keeps g.T.AnyStore.is_at c.args.server.now c.versions-versions.new.self c.collect-done.new.server
-    c.versions-upkeep.new.self _ c.versions-versions.ensures.serves c.collect-done.ensures.collected c.versions-upkeep.ensures.serves
+pub returns-in-Ok-clause-tidied : goal.returns-in-Ok-clause-tidied
+returns-in-Ok-clause-tidied g c =
+    made_between g.T.ProtocolStore.keeps g.T.AnyStore.is_at c.args.server.now c.versions-versions.new.self c.carry_out_own-done.new.server
+    c.versions-upkeep.new.self _ c.versions-versions.ensures.serves c.carry_out_own-done.ensures.own c.versions-upkeep.ensures.serves
+
+pub returns-in-Err-clause-tidied : goal.returns-in-Err-clause-tidied
+returns-in-Err-clause-tidied g c =
+    made_between g.T.ProtocolStore.keeps g.T.AnyStore.is_at c.args.server.now c.versions-versions.new.self c.carry_out_own-done.new.server
+    c.versions-upkeep.new.self _ c.versions-versions.ensures.serves c.carry_out_own-done.ensures.own c.versions-upkeep.ensures.serves

@@ -21,10 +21,19 @@ returns-in-Err-end_all-clause-on g c =
 pub returns-in-Err-tidy-clause-on : goal.returns-in-Err-tidy-clause-on
 returns-in-Err-tidy-clause-on g c =
     let on = then_on g.T.ProtocolStore.keeps g.T.AnyStore.is_at in
-    on c.args.clients.now c.end_all.new.self c.tidy.new.self
+    on c.args.clients.now c.end_idle.new.self c.tidy.new.self
+    (on c.args.clients.now c.end_all.new.self c.end_idle.new.self
     (on c.args.clients.now c.round.new.self c.end_all.new.self
     (on c.args.clients.now c.loop.clients c.round.new.self c.loop.invariant c.round.ensures.on) c.end_all.ensures.on)
-    c.tidy.ensures.on
+    c.end_idle.ensures.on) c.tidy.ensures.on
+
+pub returns-in-Err-end_idle-clause-on : goal.returns-in-Err-end_idle-clause-on
+returns-in-Err-end_idle-clause-on g c =
+    let on = then_on g.T.ProtocolStore.keeps g.T.AnyStore.is_at in
+    on c.args.clients.now c.end_all.new.self c.end_idle.new.self
+    (on c.args.clients.now c.round.new.self c.end_all.new.self
+    (on c.args.clients.now c.loop.clients c.round.new.self c.loop.invariant c.round.ensures.on) c.end_all.ensures.on)
+    c.end_idle.ensures.on
 
 pub returns-in-Some-clause-on : goal.returns-in-Some-clause-on
 returns-in-Some-clause-on g c =
@@ -32,10 +41,11 @@ returns-in-Some-clause-on g c =
     then_unseen g.T.ProtocolStore.keeps g.T.AnyStore.is_at c.args.clients.now c.accept.new.self c.news.new.self
     c.news.ensures.users c.news.ensures.server
     (on c.args.clients.now c.tidy.new.self c.accept.new.self
-    (on c.args.clients.now c.end_all.new.self c.tidy.new.self
+    (on c.args.clients.now c.end_idle.new.self c.tidy.new.self
+    (on c.args.clients.now c.end_all.new.self c.end_idle.new.self
     (on c.args.clients.now c.round.new.self c.end_all.new.self
     (on c.args.clients.now c.loop.clients c.round.new.self c.loop.invariant c.round.ensures.on) c.end_all.ensures.on)
-    c.tidy.ensures.on) c.accept.ensures)
+    c.end_idle.ensures.on) c.tidy.ensures.on) c.accept.ensures)
 
 pub loop-preserved : goal.loop-preserved
 loop-preserved g c =
@@ -43,10 +53,11 @@ loop-preserved g c =
     then_unseen g.T.ProtocolStore.keeps g.T.AnyStore.is_at c.args.clients.now c.accept.new.self c.news.new.self
     c.news.ensures.users c.news.ensures.server
     (on c.args.clients.now c.tidy.new.self c.accept.new.self
-    (on c.args.clients.now c.end_all.new.self c.tidy.new.self
+    (on c.args.clients.now c.end_idle.new.self c.tidy.new.self
+    (on c.args.clients.now c.end_all.new.self c.end_idle.new.self
     (on c.args.clients.now c.round.new.self c.end_all.new.self
     (on c.args.clients.now c.loop.clients c.round.new.self c.loop.invariant c.round.ensures.on) c.end_all.ensures.on)
-    c.tidy.ensures.on) c.accept.ensures)
+    c.end_idle.ensures.on) c.tidy.ensures.on) c.accept.ensures)
 
 pub returns-then-is_due-clause-on : goal.returns-then-is_due-clause-on
 returns-then-is_due-clause-on g c =
@@ -54,7 +65,8 @@ returns-then-is_due-clause-on g c =
     then_unseen g.T.ProtocolStore.keeps g.T.AnyStore.is_at c.args.clients.now c.accept.new.self c.news.new.self
     c.news.ensures.users c.news.ensures.server
     (on c.args.clients.now c.tidy.new.self c.accept.new.self
-    (on c.args.clients.now c.end_all.new.self c.tidy.new.self
+    (on c.args.clients.now c.end_idle.new.self c.tidy.new.self
+    (on c.args.clients.now c.end_all.new.self c.end_idle.new.self
     (on c.args.clients.now c.round.new.self c.end_all.new.self
     (on c.args.clients.now c.loop.clients c.round.new.self c.loop.invariant c.round.ensures.on) c.end_all.ensures.on)
-    c.tidy.ensures.on) c.accept.ensures)
+    c.end_idle.ensures.on) c.tidy.ensures.on) c.accept.ensures)

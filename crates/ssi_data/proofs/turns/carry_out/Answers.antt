@@ -22,7 +22,7 @@ loop-count-init g c = record {
   none = λ e. refl;
   carried = carried_none g.T.ProtocolStore.keeps g.T.AnyStore.is_at c.args.token
       (MayRun (is_stopped (hub_of c.args.server.now)) (buffers_of (hub_of c.args.server.now) c.args.token) × (0 < 0))
-      c.args.users.now c.args.server.now c.args.server.now (λ h. absurd (omega (arith, h.1))) (λ n began calls s. s);
+      c.args.tables.now c.args.server.now c.args.server.now (λ h. absurd (omega (arith, h.1))) (λ n began calls s. s);
   table = refl;
 }
 
@@ -30,7 +30,7 @@ pub returns-then-not-wants_run-clause-carried : goal.returns-then-not-wants_run-
 returns-then-not-wants_run-clause-carried g c =
     let May = MayRun (is_stopped (hub_of c.args.server.now)) (buffers_of (hub_of c.args.server.now) c.args.token) in
     carried_if g.T.ProtocolStore.keeps g.T.AnyStore.is_at c.args.token May
-    (May × (0 < c.loop-count._count)) c.args.users.now c.loop-count.users c.args.server.now c.loop-count.server
+    (May × (0 < c.loop-count._count)) c.args.tables.now c.loop-count.tables c.args.server.now c.loop-count.server
     (later c.loop-count._count c.args.token c.args.server.now c.loop-count.server c.loop-count.invariant.none
     (cant_run (is_stopped (hub_of c.loop-count.server)) (buffers_of (hub_of c.loop-count.server) c.args.token)
     c.wants_run.result c.wants_run.ensures c.if-not-wants_run.true))
@@ -41,13 +41,13 @@ returns-in_err-carry_out_line-clause-carried g c =
     let dumps = g.T.ProtocolStore.keeps in
     let is_at = g.T.AnyStore.is_at in
     let May = MayRun (is_stopped (hub_of c.args.server.now)) (buffers_of (hub_of c.args.server.now) c.args.token) in
-    if_passed dumps is_at c.args.token c.from_residual.result May c.args.users.now c.carry_out_line.new.users c.args.server.now
+    if_passed dumps is_at c.args.token c.from_residual.result May c.args.tables.now c.carry_out_line.new.tables c.args.server.now
     c.carry_out_line.new.server c.from_residual.ensures.0
-    (carried_both dumps is_at c.args.token ⊥ (May × (0 < c.loop-count._count)) ⊥ c.args.users.now c.loop-count.users
-    c.carry_out_line.new.users c.args.server.now c.loop-count.server c.carry_out_line.new.server (λ h. absurd h)
+    (carried_both dumps is_at c.args.token ⊥ (May × (0 < c.loop-count._count)) ⊥ c.args.tables.now c.loop-count.tables
+    c.carry_out_line.new.tables c.args.server.now c.loop-count.server c.carry_out_line.new.server (λ h. absurd h)
     c.loop-count.invariant.carried
     (open_by dumps is_at _ c.loop-count.server c.args.token c.wants_run.result c.wants_run.ensures c.if-not-wants_run.false)
-    (of_err dumps is_at c.args.token c.loop-count.users c.carry_out_line.new.users c.loop-count.server c.carry_out_line.new.server
+    (of_err dumps is_at c.args.token c.loop-count.tables c.carry_out_line.new.tables c.loop-count.server c.carry_out_line.new.server
     c.in_err-carry_out_line.ensures.carried))
 
 pub loop-count-preserved : goal.loop-count-preserved
@@ -57,10 +57,10 @@ loop-count-preserved g c =
     let May = MayRun (is_stopped (hub_of c.args.server.now)) (buffers_of (hub_of c.args.server.now) c.args.token) in record {
       none = λ e. absurd (omega (arith, e));
       carried = carried_both dumps is_at c.args.token (May × (0 < c.loop-count._count + 1)) (May × (0 < c.loop-count._count)) (Unit {0})
-          c.args.users.now c.loop-count.users c.carry_out_line.new.users c.args.server.now c.loop-count.server
+          c.args.tables.now c.loop-count.tables c.carry_out_line.new.tables c.args.server.now c.loop-count.server
           c.carry_out_line.new.server (λ h. inr tt) c.loop-count.invariant.carried
           (open_by dumps is_at _ c.loop-count.server c.args.token c.wants_run.result c.wants_run.ensures c.if-not-wants_run.false)
-          (of_ok dumps is_at c.args.token c.loop-count.users c.carry_out_line.new.users c.loop-count.server
+          (of_ok dumps is_at c.args.token c.loop-count.tables c.carry_out_line.new.tables c.loop-count.server
           c.carry_out_line.new.server c.in_ok-carry_out_line.ensures.carried);
       table = c.in_ok-carry_out_line.ensures.table ∙ c.loop-count.invariant.table;
     }
@@ -69,5 +69,5 @@ pub returns-clause-carried : goal.returns-clause-carried
 returns-clause-carried g c =
     let May = MayRun (is_stopped (hub_of c.args.server.now)) (buffers_of (hub_of c.args.server.now) c.args.token) in
     carried_if g.T.ProtocolStore.keeps g.T.AnyStore.is_at c.args.token May
-    (May × (0 < c.loop-count._count)) c.args.users.now c.loop-count.users c.args.server.now c.loop-count.server
+    (May × (0 < c.loop-count._count)) c.args.tables.now c.loop-count.tables c.args.server.now c.loop-count.server
     (λ may. (may, omega (arith, c.loop-count-test.false))) c.loop-count.invariant.carried

@@ -13,6 +13,6 @@ invariant-loop-count g l = record {
   none : l._count ≡ 0 → l.server ≡ l.initial.server;
   carried : Carried g.T.ProtocolStore.keeps g.T.AnyStore.is_at l.token
       (MayRun (is_stopped (hub_of l.initial.server)) (buffers_of (hub_of l.initial.server) l.token) × (0 < l._count))
-      l.initial.users l.users l.initial.server l.server;
-  table : is_some l.users ≡ is_some l.initial.users;
+      l.initial.tables l.tables l.initial.server l.server;
+  table : is_some l.tables.users ≡ is_some l.initial.tables.users;
 }

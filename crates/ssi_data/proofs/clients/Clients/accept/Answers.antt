@@ -3,11 +3,11 @@ use Rattle.ssi_data.proofs.clients.Clients.accept.Goals as goal
 
 pub loop-init : goal.loop-init
 loop-init g c =
-    stays g.T.ProtocolStore.keeps g.T.AnyStore.is_at c.args.self.now.users c.args.self.now.server
+    stays g.T.ProtocolStore.keeps g.T.AnyStore.is_at c.args.self.now.tables.users c.args.self.now.server
 
 pub loop-preserved : goal.loop-preserved
 loop-preserved g c =
-    both g.T.ProtocolStore.keeps g.T.AnyStore.is_at c.args.self.now.users c.loop.self.users c.add.new.self.users
+    both g.T.ProtocolStore.keeps g.T.AnyStore.is_at c.args.self.now.tables.users c.loop.self.tables.users c.add.new.self.tables.users
     c.args.self.now.server c.loop.self.server c.add.new.self.server c.loop.invariant c.add.ensures
 
 pub returns : goal.returns

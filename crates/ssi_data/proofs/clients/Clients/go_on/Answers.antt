@@ -3,16 +3,16 @@ use Rattle.ssi_data.proofs.clients.Clients.go_on.Goals as goal
 
 pub loop-index-init : goal.loop-index-init
 loop-index-init g c =
-    stays g.T.ProtocolStore.keeps g.T.AnyStore.is_at c.args.self.now.users c.args.self.now.server
+    stays g.T.ProtocolStore.keeps g.T.AnyStore.is_at c.args.self.now.tables.users c.args.self.now.server
 
 pub loop-index-preserved : goal.loop-index-preserved
 loop-index-preserved g c =
-    both g.T.ProtocolStore.keeps g.T.AnyStore.is_at c.args.self.now.users c.loop-index.self.users c.take_at.new.self.users
+    both g.T.ProtocolStore.keeps g.T.AnyStore.is_at c.args.self.now.tables.users c.loop-index.self.tables.users c.take_at.new.self.tables.users
     c.args.self.now.server c.loop-index.self.server c.take_at.new.self.server c.loop-index.invariant c.take_at.ensures.on
 
 pub returns-in_err-take_at-clause-on : goal.returns-in_err-take_at-clause-on
 returns-in_err-take_at-clause-on g c =
-    both g.T.ProtocolStore.keeps g.T.AnyStore.is_at c.args.self.now.users c.loop-index.self.users c.take_at.new.self.users
+    both g.T.ProtocolStore.keeps g.T.AnyStore.is_at c.args.self.now.tables.users c.loop-index.self.tables.users c.take_at.new.self.tables.users
     c.args.self.now.server c.loop-index.self.server c.take_at.new.self.server c.loop-index.invariant c.take_at.ensures.on
 
 pub returns-clause-on : goal.returns-clause-on

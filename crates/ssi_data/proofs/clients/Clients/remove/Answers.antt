@@ -6,16 +6,16 @@ use Rattle.ssi_data.proofs.clients.Clients.remove.Goals as goal
 pub returns-in-Ok-clause-on : goal.returns-in-Ok-clause-on
 returns-in-Ok-clause-on g c =
     aborts g.T.ProtocolStore.keeps g.T.AnyStore.is_at c.aborts_are_deeds.ensures c.args.token
-    c.args.self.now.users c.abort_all.new.users c.args.self.now.server c.abort_all.new.server c.abort_all.ensures.table
+    c.args.self.now.tables.users c.abort_all.new.users c.args.self.now.server c.abort_all.new.server c.abort_all.ensures.table
     c.abort_all.ensures.forgets c.requires c.abort_all.ensures.aborts
 
 pub returns-in-Err-clause-on : goal.returns-in-Err-clause-on
 returns-in-Err-clause-on g c =
-    unseen g.T.ProtocolStore.keeps g.T.AnyStore.is_at c.args.self.now.users c.abort_all.new.users
-    c.unless_full.new.self.users c.args.self.now.server c.abort_all.new.server c.unless_full.new.self.server
+    unseen g.T.ProtocolStore.keeps g.T.AnyStore.is_at c.args.self.now.tables.users c.abort_all.new.users
+    c.unless_full.new.self.tables.users c.args.self.now.server c.abort_all.new.server c.unless_full.new.self.server
     c.unless_full.ensures.users c.unless_full.ensures.server
     (aborts g.T.ProtocolStore.keeps g.T.AnyStore.is_at c.aborts_are_deeds.ensures c.args.token
-    c.args.self.now.users c.abort_all.new.users c.args.self.now.server c.abort_all.new.server c.abort_all.ensures.table
+    c.args.self.now.tables.users c.abort_all.new.users c.args.self.now.server c.abort_all.new.server c.abort_all.ensures.table
     c.abort_all.ensures.forgets c.requires c.abort_all.ensures.aborts)
 
 pub returns-in-Err-clause-failed : goal.returns-in-Err-clause-failed

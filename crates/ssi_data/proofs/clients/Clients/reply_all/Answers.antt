@@ -5,7 +5,7 @@ use Rattle.ssi_data.proofs.clients.Clients.reply_all.Goals as goal
 pub loop-index-init : goal.loop-index-init
 loop-index-init g c =
     record {
-      on = stays g.T.ProtocolStore.keeps g.T.AnyStore.is_at c.args.self.now.users c.args.self.now.server;
+      on = stays g.T.ProtocolStore.keeps g.T.AnyStore.is_at c.args.self.now.tables.users c.args.self.now.server;
       settled = refl;
     }
 
@@ -13,7 +13,7 @@ pub loop-index-preserved : goal.loop-index-preserved
 loop-index-preserved g c =
     record {
       on =
-          both g.T.ProtocolStore.keeps g.T.AnyStore.is_at c.args.self.now.users c.loop-index.self.users c.reply_at.new.self.users
+          both g.T.ProtocolStore.keeps g.T.AnyStore.is_at c.args.self.now.tables.users c.loop-index.self.tables.users c.reply_at.new.self.tables.users
           c.args.self.now.server c.loop-index.self.server c.reply_at.new.self.server c.loop-index.invariant.on c.reply_at.ensures.on;
       settled = c.reply_at.ensures.settled ∙ c.loop-index.invariant.settled;
     }

@@ -5,16 +5,16 @@ use Rattle.ssi_data.proofs.clients.Clients.take_at.Goals as goal
 
 pub returns-clause-on : goal.returns-clause-on
 returns-clause-on g c =
-    unseen g.T.ProtocolStore.keeps g.T.AnyStore.is_at c.args.self.now.users
-    c.carry_out-carried.new.users c.unless_full.new.self.users c.args.self.now.server c.carry_out-carried.new.server
+    unseen g.T.ProtocolStore.keeps g.T.AnyStore.is_at c.args.self.now.tables.users
+    c.carry_out-carried.new.tables.users c.unless_full.new.self.tables.users c.args.self.now.server c.carry_out-carried.new.server
     c.unless_full.new.self.server c.unless_full.ensures.users c.unless_full.ensures.server
-    (both g.T.ProtocolStore.keeps g.T.AnyStore.is_at c.args.self.now.users c.args.self.now.users
-    c.carry_out-carried.new.users c.args.self.now.server c.receive.new.server c.carry_out-carried.new.server
+    (both g.T.ProtocolStore.keeps g.T.AnyStore.is_at c.args.self.now.tables.users c.args.self.now.tables.users
+    c.carry_out-carried.new.tables.users c.args.self.now.server c.receive.new.server c.carry_out-carried.new.server
     (quietly_either g.T.ProtocolStore.keeps g.T.AnyStore.is_at {A = Unit {0}}
-    c.calls_are_deeds.ensures.done c.calls_are_deeds.ensures.quiet c.receive.result c.args.self.now.users
+    c.calls_are_deeds.ensures.done c.calls_are_deeds.ensures.quiet c.receive.result c.args.self.now.tables.users
     c.args.self.now.server c.receive.new.server _ _ _ c.receive.ensures.received c.receive.ensures.dropped)
     (carries g.T.ProtocolStore.keeps g.T.AnyStore.is_at c.calls_are_deeds.ensures.done c.in-Some.token
-    c.args.self.now.users c.carry_out-carried.new.users c.receive.new.server c.carry_out-carried.new.server _
+    c.args.self.now.tables c.carry_out-carried.new.tables c.receive.new.server c.carry_out-carried.new.server _
     c.carry_out-carried.ensures.table c.carry_out-carried.ensures.carried))
 
 pub returns-clause-failed : goal.returns-clause-failed

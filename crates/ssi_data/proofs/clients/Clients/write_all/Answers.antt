@@ -5,7 +5,7 @@ use Rattle.ssi_data.proofs.clients.Clients.write_all.Goals as goal
 pub loop-index-init : goal.loop-index-init
 loop-index-init g c =
     record {
-      on = stays g.T.ProtocolStore.keeps g.T.AnyStore.is_at c.args.self.now.users c.args.self.now.server;
+      on = stays g.T.ProtocolStore.keeps g.T.AnyStore.is_at c.args.self.now.tables.users c.args.self.now.server;
       stopped = refl;
       settled = refl;
     }
@@ -14,7 +14,7 @@ pub loop-index-preserved : goal.loop-index-preserved
 loop-index-preserved g c =
     record {
       on =
-          both g.T.ProtocolStore.keeps g.T.AnyStore.is_at c.args.self.now.users c.loop-index.self.users c.write_at.new.self.users
+          both g.T.ProtocolStore.keeps g.T.AnyStore.is_at c.args.self.now.tables.users c.loop-index.self.tables.users c.write_at.new.self.tables.users
           c.args.self.now.server c.loop-index.self.server c.write_at.new.self.server c.loop-index.invariant.on c.write_at.ensures.on;
       stopped = c.write_at.ensures.stopped ∙ c.loop-index.invariant.stopped;
       settled = c.write_at.ensures.settled ∙ c.loop-index.invariant.settled;
