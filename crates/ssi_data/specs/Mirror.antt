@@ -10,12 +10,17 @@ use Rattle.ssi_durable.specs.declared.server.Server.{Server}
 use Rattle.ssi_durable.specs.Mirror.Servers.{hub_of, is_settled}
 use Rattle.ssi_cli.specs.declared.users.Users.{Users}
 use Rattle.ssi_data.specs.declared.clients.Clients.{Clients}
+use Rattle.ssi_data.specs.declared.idle.Idle.{Idle}
 use Rattle.ssi_data.specs.Clauses.Rounds.{GoesOn}
 
 -- the replies that are to be written to a connection
 abbrev pub unsent_of : Option Buffers → Bytes
 unsent_of None = []
 unsent_of (Some b) = b.unsent
+
+-- for how many seconds a session may have no command
+abbrev pub seconds_of : Idle → ℕ
+seconds_of idle = idle.limit
 
 module _ {T D : Type 0} {disk : Ghosts D} where
   -- those that may be: none before all lines that count are on the disk
@@ -37,9 +42,9 @@ module _ {T D : Type 0} {disk : Ghosts D} where
   abbrev pub second_of : Clients T D disk → ℕ
   second_of clients = clients.tables.second
 
-  -- for how many seconds a session may have no command, if there is a bound
+  -- the bound on these seconds, if there is one
   abbrev pub limit_of : Clients T D disk → Option ℕ
-  limit_of clients = option_map (λ idle. idle.limit) clients.idle
+  limit_of clients = option_map seconds_of clients.idle
 
   -- the log is left once it has more bytes
   abbrev pub due_of : Clients T D disk → ℕ

@@ -1,6 +1,7 @@
 //! The connections that use a server, and their sockets.
 
 ghost use Rattle.std.specs.Prelude.{◌≡◌, ◌+◌, ◌-◌, ◌/◌, ◌^◌, ℕ, List, [], None, Some, true, false, is_some, min, nat_lt, IsTrue, OnOk, OnErr, IfOk, IfErr};
+ghost use Rattle.std.specs.Option.{option_map};
 ghost use Rattle.adya_keys.specs.Meaning.Keys.{Bytes};
 ghost use Rattle.ssi_store.specs.Meaning.Courses.{Course, txn_in};
 ghost use Rattle.ssi_hub.specs.Clauses.Calls.{Call};
@@ -65,7 +66,7 @@ pub struct Clients<T: Drop, D: Disk + Drop> {
 }
 
 impl<T: ProtocolStore + Drop, D: Disk + Drop> Clients<T, D> {
-    ghost use Rattle.ssi_data.specs.Mirror.{GoOn, due_of, limit_of, second_of, server_of, times_of, users_of};
+    ghost use Rattle.ssi_data.specs.Mirror.{GoOn, due_of, limit_of, second_of, seconds_of, server_of, times_of, users_of};
 
     /// Those of a server that has no connection yet. Sessions that had no command for longer than `idle` says are aborted; one that
     /// had none yet isn't, also if it has a transaction. Its segment is left once its log has more than `most` bytes, and more than
@@ -80,6 +81,8 @@ impl<T: ProtocolStore + Drop, D: Disk + Drop> Clients<T, D> {
     ) -> Clients<T, D>
         ensures server { server_of result ≡ server }
         ensures table { is_some (users_of result) ≡ aborts at_close }
+        ensures times { is_some (times_of result) ≡ is_some idle }
+        ensures limit { limit_of result ≡ option_map seconds_of idle }
         ensures due { due_of result ≡ due_len most loaded }
         // What the server has served are its first deeds.
         ensures done { (n : ℕ) (began : Began) (calls : List Call) → Serves T.keeps T.is_at n began server calls
@@ -444,7 +447,9 @@ impl<T: ProtocolStore + Drop, D: Disk + Drop> Clients<T, D> {
 }
 
 /// Returns a table of when sessions had their last command, if there is a bound on that.
-fn times_for(alloc: Global, idle: &Option<Idle>) -> Option<Users> {
+fn times_for(alloc: Global, idle: &Option<Idle>) -> Option<Users>
+    ensures { is_some result ≡ is_some idle.now }
+{
     match idle {
         Some(_) => Some(Users::new(alloc)),
         None => None,

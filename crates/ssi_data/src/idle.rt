@@ -1,6 +1,6 @@
 //! Aborts of the sessions that had no command for long.
 
-ghost use Rattle.std.specs.Prelude.{◌≡◌, ◌<◌, ◌+◌, ℕ, List, Some, true, false, is_some, IfErr};
+ghost use Rattle.std.specs.Prelude.{◌≡◌, ◌≤◌, ◌<◌, ◌+◌, ℕ, List, Some, true, false, is_some, IfOk, IfErr};
 ghost use Rattle.ssi_durable.specs.Clauses.Journals.{is_full};
 ghost use Rattle.ssi_durable.specs.Mirror.Servers.{has_failed};
 ghost use Rattle.ssi_cli.specs.Clauses.Leaving.{HasForgotten};
@@ -31,8 +31,12 @@ pub struct Idle {
 }
 
 impl Idle {
+    ghost use Rattle.ssi_data.specs.Mirror.{seconds_of};
+
     /// A session may have none for so many seconds. An error if the clock can't be read.
-    pub fn new(rt: &HostRuntime, limit: u64) -> io::Result<Idle> {
+    pub fn new(rt: &HostRuntime, limit: u64) -> io::Result<Idle>
+        ensures { IfOk result (λ idle. seconds_of idle ≡ limit) }
+    {
         Ok(Idle {
             limit,
             start: Instant::now(rt)?,
@@ -41,7 +45,9 @@ impl Idle {
     }
 
     /// Returns the second that it is; this one at least, also if the clock can't be read.
-    pub(crate) fn second(&self, rt: &HostRuntime, least: u64) -> u64 {
+    pub(crate) fn second(&self, rt: &HostRuntime, least: u64) -> u64
+        ensures { least ≤ result }
+    {
         match self.start.elapsed(rt) {
             Ok(elapsed) => elapsed.as_secs().max(least),
             Err(_) => least,
