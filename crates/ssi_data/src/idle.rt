@@ -26,7 +26,7 @@ pub struct Idle {
     limit: u64,
     // seconds are counted from here
     start: Instant,
-    // the sessions are aborted that had their last command in a second before this one
+    // sessions that had their last command in a second before this one were aborted
     swept: u64,
 }
 
