@@ -11,12 +11,17 @@ use Rattle.ssi_durable.specs.Mirror.Servers.{hub_of, is_settled}
 use Rattle.ssi_cli.specs.declared.users.Users.{Users}
 use Rattle.ssi_data.specs.declared.clients.Clients.{Clients}
 use Rattle.ssi_data.specs.declared.idle.Idle.{Idle}
+use Rattle.ssi_data.specs.declared.tables.Tables.{Tables}
 use Rattle.ssi_data.specs.Clauses.Rounds.{GoesOn}
 
 -- the replies that are to be written to a connection
 abbrev pub unsent_of : Option Buffers → Bytes
 unsent_of None = []
 unsent_of (Some b) = b.unsent
+
+-- who has used each session last, as far as that is kept
+abbrev pub users_in : Tables → Option Users
+users_in tables = tables.users
 
 -- for how many seconds a session may have no command
 abbrev pub seconds_of : Idle → ℕ
@@ -45,6 +50,10 @@ module _ {T D : Type 0} {disk : Ghosts D} where
   -- the bound on these seconds, if there is one
   abbrev pub limit_of : Clients T D disk → Option ℕ
   limit_of clients = option_map seconds_of clients.idle
+
+  -- a log that has more bytes is left for that of the next segment, unless its loads are more than half of it
+  abbrev pub most_of : Clients T D disk → ℕ
+  most_of clients = clients.most
 
   -- the log is left once it has more bytes
   abbrev pub due_of : Clients T D disk → ℕ

@@ -66,7 +66,7 @@ pub struct Clients<T: Drop, D: Disk + Drop> {
 }
 
 impl<T: ProtocolStore + Drop, D: Disk + Drop> Clients<T, D> {
-    ghost use Rattle.ssi_data.specs.Mirror.{GoOn, due_of, limit_of, second_of, seconds_of, server_of, times_of, users_of};
+    ghost use Rattle.ssi_data.specs.Mirror.{GoOn, due_of, limit_of, most_of, second_of, seconds_of, server_of, times_of, users_of};
 
     /// Those of a server that has no connection yet. Sessions that had no command for longer than `idle` says are aborted; one that
     /// had none yet isn't, also if it has a transaction. Its segment is left once its log has more than `most` bytes, and more than
@@ -152,7 +152,7 @@ impl<T: ProtocolStore + Drop, D: Disk + Drop> Clients<T, D> {
     pub fn put_off(&mut self)
         ensures server { server_of self.new ≡ server_of self.old }
         ensures users { users_of self.new ≡ users_of self.old }
-        ensures due { due_of self.new ≡ min (end_of (log_of (server_of self.old)) + self.old.most / 4) (2 ^ 64 - 1) }
+        ensures due { due_of self.new ≡ min (end_of (log_of (server_of self.old)) + most_of self.old / 4) (2 ^ 64 - 1) }
     {
         self.due = self.server.log_len().saturating_add(self.most / 4);
     }

@@ -14,7 +14,7 @@ ghost use Rattle.ssi_cli.specs.Mirror.{stream_of, input_of, may_read, is_due};
 ghost use Rattle.ssi_data.specs.Clauses.Calls.{Makes, MakesQuietly};
 ghost use Rattle.ssi_data.specs.Clauses.Turns.{IsDropped, HasCarriedOut, HasReplied};
 ghost use Rattle.ssi_data.specs.Clauses.Timing.{is_noting};
-ghost use Rattle.ssi_data.specs.Mirror.{to_send};
+ghost use Rattle.ssi_data.specs.Mirror.{to_send, users_in};
 
 use crate::tables::Tables;
 use sqlite_disk::Disk;
@@ -95,7 +95,7 @@ pub fn carry_out<T: ProtocolStore + Drop, D: Disk + Drop>(
     ensures carried { Makes T.keeps T.is_at server.old server.new (λ calls made.
         HasCarriedOut T.keeps token tables.old tables.new calls made
         × (MayRun (is_stopped (hub_of server.old)) (buffers_of (hub_of server.old) token) → OnOk result (0 < length made))) }
-    ensures table { is_some tables.new.users ≡ is_some tables.old.users }
+    ensures table { is_some (users_in tables.new) ≡ is_some (users_in tables.old) }
     ensures fault { IfErr result (λ fault. is_full fault ≡ false → has_failed server.new ≡ true) }
 {
     for _count in 0..MOST_LINES {
