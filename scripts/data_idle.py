@@ -3,7 +3,9 @@ import time
 
 from data_server import HEAD, SECONDS, check, home, scripted
 
-LONG = 4  # seconds after which a session that may have none for one second is aborted, with room for a slow machine
+LIMIT = 3  # seconds for which a session may have no command
+IDLE = ["--idle", str(LIMIT)]
+LONG = LIMIT + 5  # seconds after which it is aborted, with room for a slow machine
 STEP = 0.2  # seconds between the commands of a session that is in use
 
 
@@ -17,12 +19,12 @@ def wait_for(it, line):
 
 def try_idle(options, chance):
     with home() as it:
-        server = it.start("--idle", "1")
+        server = it.start(*IDLE)
         begun = time.monotonic()
         check("idle: begun", ["begun 1", "done"], server.ask("begin A", "put A x 1"))
         # No command comes meanwhile: the server looks by itself.
         check("idle: its abort is in the log", True, wait_for(it, "abort A"))
-        check("idle: not before a second", True, time.monotonic() - begun > 1)
+        check("idle: not before its time", True, time.monotonic() - begun > LIMIT)
         check("idle: it has none any more", ["! 2 idle", "stat open 0 kept 0 versions 0 keys 0"], server.ask("commit A", "stat"))
         # One that is in use stays, also if another is aborted beside it; a refused command is a use too.
         peer, other = server.peer(), server.peer()
@@ -50,7 +52,7 @@ def try_idle(options, chance):
         server.end()
     # With the other option the sessions of a connection that is gone are aborted at once.
     with home() as it:
-        server = it.start("--idle", "1", "--abort-on-close")
+        server = it.start(*IDLE, "--abort-on-close")
         first, second = server.peer(), server.peer()
         check("idle: of two", ["begun 1", "begun 2"], first.ask("begin A", "begin B"))
         check("idle: one goes to another connection", ["! 1 busy"], second.ask("begin B"))
