@@ -42,7 +42,7 @@ pub struct Server<S: Drop, D: Disk> {
     store: S,
     journal: Journal<D>,
     noted: Noted,
-    // how many lines that count were those of a commit, since the server was made
+    // how many lines that count were those of a `commit`, since the server was made
     commits: u64,
 }
 
@@ -55,6 +55,7 @@ impl<S: ProtocolStore + Drop, D: Disk + Drop> Server<S, D> {
             → HasAll log lines → IfOk result (λ server. Serves S.keeps S.is_at n (from_start lines) server []) }
         ensures log { IfOk result (λ server. log_of server ≡ log) }
         ensures settled { IfOk result (λ server. is_settled server ≡ true) }
+        ensures commits { IfOk result (λ server. commits_of server ≡ 0) }
     {
         Ok(Server {
             hub: Hub::new(alloc),
@@ -74,6 +75,7 @@ impl<S: ProtocolStore + Drop, D: Disk + Drop> Server<S, D> {
         ensures stopped { is_stopped (hub_of self.new) ≡ is_stopped (hub_of self.old) }
         ensures settled { is_settled self.new ≡ is_settled self.old }
         ensures failed { has_failed self.new ≡ has_failed self.old }
+        ensures commits { commits_of self.new ≡ commits_of self.old }
     {
         self.hub.opened(alloc)
     }
@@ -89,6 +91,7 @@ impl<S: ProtocolStore + Drop, D: Disk + Drop> Server<S, D> {
         ensures err { OnErr result (IsSame (hub_of self.old) (hub_of self.new)) }
         ensures settled { is_settled self.new ≡ is_settled self.old }
         ensures failed { has_failed self.new ≡ has_failed self.old }
+        ensures commits { commits_of self.new ≡ commits_of self.old }
     {
         self.hub.received(token, bytes)
     }
@@ -170,6 +173,7 @@ impl<S: ProtocolStore + Drop, D: Disk + Drop> Server<S, D> {
         ensures settled { OnOk result (is_settled self.new ≡ true) }
         ensures failed { OnErr result (has_failed self.new ≡ true) }
         ensures hub { hub_of self.new ≡ hub_of self.old }
+        ensures commits { commits_of self.new ≡ commits_of self.old }
     {
         self.journal.settle()
     }
@@ -189,7 +193,8 @@ impl<S: ProtocolStore + Drop, D: Disk + Drop> Server<S, D> {
         self.store.contents()
     }
 
-    /// Returns how many commits were carried out and not refused since the server was made: 2^64-1 if there are more.
+    /// Returns how many commands `commit` were carried out since the server was made, those answered with `conflict` or `unsafe`
+    /// among them, but none that was refused: 2^64-1 if there are more.
     pub fn commits(&self) -> u64
         ensures { result ≡ commits_of self.now }
     {
@@ -205,6 +210,7 @@ impl<S: ProtocolStore + Drop, D: Disk + Drop> Server<S, D> {
         ensures log { log_of self.new ≡ log_of self.old }
         ensures settled { is_settled self.new ≡ is_settled self.old }
         ensures failed { has_failed self.new ≡ has_failed self.old }
+        ensures commits { commits_of self.new ≡ commits_of self.old }
     {
         let counts = self.store.apply(Command::Stat);
         self.store.stats_change_nothing();
@@ -237,6 +243,7 @@ impl<S: ProtocolStore + Drop, D: Disk + Drop> Server<S, D> {
         ensures log { log_of self.new ≡ log }
         ensures settled { is_settled self.new ≡ true }
         ensures going { has_failed self.new ≡ false }
+        ensures commits { commits_of self.new ≡ commits_of self.old }
     {
         self.journal.settled_lines_are_sure();
         self.store = store;
@@ -266,6 +273,7 @@ impl<S: ProtocolStore + Drop, D: Disk + Drop> Server<S, D> {
         ensures stopped { is_stopped (hub_of self.new) ≡ is_stopped (hub_of self.old) }
         ensures settled { is_settled self.new ≡ is_settled self.old }
         ensures failed { has_failed self.new ≡ has_failed self.old }
+        ensures commits { commits_of self.new ≡ commits_of self.old }
     {
         if self.journal.is_settled() {
             self.journal.settled_lines_are_sure();
@@ -280,6 +288,7 @@ impl<S: ProtocolStore + Drop, D: Disk + Drop> Server<S, D> {
         ensures closed { Changed (hub_of self.old) (hub_of self.new) token None }
         ensures settled { is_settled self.new ≡ is_settled self.old }
         ensures failed { has_failed self.new ≡ has_failed self.old }
+        ensures commits { commits_of self.new ≡ commits_of self.old }
     {
         self.hub.closed(token);
     }
