@@ -21,7 +21,7 @@ use Rattle.ssi_cli.specs.Clauses.Turns.{Exchanged, HasUnsent}
 use Rattle.ssi_data.specs.Clauses.Calls.{MakesQuietly}
 use Rattle.ssi_data.specs.Mirror.{to_send, unsent_of}
 
-own : (t : ℕ) → (t == t) ≡ true
+pub own : (t : ℕ) → (t == t) ≡ true
 own t = eq-eqb t t refl
 
 -- ---- a connection that is open

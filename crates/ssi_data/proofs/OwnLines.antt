@@ -2,7 +2,6 @@
 use Rattle.std.proofs.Common.{◌≡◌, ◌<◌, ℕ, Bool, true, false, cond, List, [], ◌∷◌, ◌++◌, length, Option, None, Some, refl, sym, ap, subst, ◌∙◌, append_assoc, ◌⊎◌, inl, inr, arith}
 use Rattle.std.specs.Prelude.{◌==◌, not, ◌&&◌, ◌||◌, MatchOption, IfNone, IfSome}
 use Rattle.std.specs.List.{AllByRecursion}
-use Rattle.std.proofs.lemmas.Bool.{eq-eqb}
 use Rattle.std.proofs.lemmas.Bool.Decides.{nat_tests}
 use Rattle.sqlite_disk.specs.declared.Disk.{Ghosts}
 use Rattle.ssi_store.specs.Meaning.Courses.{Course}
@@ -15,16 +14,15 @@ use Rattle.ssi_durable.specs.declared.server.Server.{Server}
 use Rattle.ssi_durable.specs.Clauses.Serving.{Began}
 use Rattle.ssi_durable.specs.Mirror.Servers.{Serves, HasStepped, hub_of}
 use Rattle.ssi_cli.specs.declared.users.Users.{Users}
-use Rattle.ssi_cli.specs.Meaning.Users.{last_after, last_by}
+use Rattle.ssi_cli.specs.Meaning.Users.{last_after}
 use Rattle.ssi_cli.specs.Clauses.Leaving.{HasNoted}
 use Rattle.ssi_cli.specs.Clauses.Turns.{IsRunOf}
 use Rattle.ssi_cli.specs.Mirror.{last_at}
 use Rattle.ssi_data.specs.declared.tables.Tables.{Tables}
 use Rattle.ssi_data.specs.Clauses.Calls.{IsOwn, Makes, MakesQuietly}
 use Rattle.ssi_data.specs.Clauses.Turns.{HasCarriedOut}
-
-own : (t : ℕ) → (t == t) ≡ true
-own t = eq-eqb t t refl
+use Rattle.ssi_data.proofs.Makings.{own}
+use Rattle.ssi_data.proofs.Turning.{last_both}
 
 closed_now : (t : ℕ) (calls : List Call) → is_open t (Closed t ∷ calls) ≡ false
 closed_now t calls = ap (λ b. not b && is_open t calls) (own t)
@@ -85,11 +83,6 @@ silent_sent t (Closed u ∷ made) rest are = silent_sent t made rest are.1
 silent_sent t (Opened u ∷ made) rest are = absurd are.0
 silent_sent t (Received u bytes ∷ made) rest are = absurd are.0
 silent_sent t (Wrote u bytes ∷ made) rest are = absurd are.0
-
-last_first : (s : List ℕ) (made rest : List Call) (was : Option ℕ)
-    → last_after s (made ++ rest) was ≡ last_after s made (last_after s rest was)
-last_first s [] rest was = refl
-last_first s (c ∷ made) rest was = ap (last_by s c) (last_first s made rest was)
 
 -- ---- a connection that isn't open
 
@@ -272,7 +265,7 @@ module _ {T D : Type 0} {disk : Ghosts D} (dumps : Bool) (is_at : T → Course �
               gone = closing_gone left_open t made first calls refl (not_open t calls (new_here n began calls s));
             },
             (λ u user e.
-                last_first u (closing left_open t made) first (last_at was.users u)
+                last_both u (closing left_open t made) first (last_at was.users u)
                 ∙ closing_last left_open u t made (last_at was.users u) ∙ has.noted u user e),
           ),
         )

@@ -3,7 +3,7 @@ use Rattle.std.proofs.Common.{◌≡◌, ◌≢◌, ℕ, ◌+◌, ◌<◌, ◌�
 use Rattle.std.specs.Prelude.{◌==◌, not, ◌&&◌, ◌||◌, is_some, IsErr, MatchOption, nat_le}
 use Rattle.std.specs.List.{AllByRecursion}
 use Rattle.std.specs.Result.{IsErrAnd}
-use Rattle.std.proofs.lemmas.Bool.{eq-eqb, both_ways, false≢true, and_parts, leb-true, le-leb}
+use Rattle.std.proofs.lemmas.Bool.{both_ways, false≢true, and_parts, leb-true, le-leb}
 use Rattle.std.proofs.lemmas.Option.{none-some, same_Some}
 use Rattle.std.proofs.lemmas.List.Elements.{All-head, All-tail}
 use Rattle.sqlite_disk.specs.declared.Disk.{Ghosts}
@@ -32,10 +32,7 @@ use Rattle.ssi_data.specs.declared.tables.Tables.{Tables}
 use Rattle.ssi_data.specs.Clauses.Calls.{Makes, MakesQuietly}
 use Rattle.ssi_data.specs.Clauses.Timing.{IsTimed}
 use Rattle.ssi_data.specs.Clauses.Turns.{HasCarriedOut, HasReplied}
-use Rattle.ssi_data.proofs.Makings.{served_at, open_at}
-
-own : (t : ℕ) → (t == t) ≡ true
-own t = eq-eqb t t refl
+use Rattle.ssi_data.proofs.Makings.{own, served_at, open_at}
 
 -- ---- what a connection may do
 
@@ -88,7 +85,7 @@ cant_want stopped (Some b) r m is wants =
 
 -- ---- who has used a session last
 
-last_both : (s : List ℕ) (later calls : List Call) (was : Option ℕ)
+pub last_both : (s : List ℕ) (later calls : List Call) (was : Option ℕ)
     → last_after s (later ++ calls) was ≡ last_after s later (last_after s calls was)
 last_both s [] calls was = refl
 last_both s (c ∷ later) calls was = ap (last_by s c) (last_both s later calls was)
