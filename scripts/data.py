@@ -12,7 +12,7 @@ one before ended with. A server that writes values over drops old ones in time, 
 aborts sessions that had no command for long. Then N servers (`--kills`, default 3) are killed
 at random moments, while clients move money between accounts: what each client was told must be what `ssi script` replies
 to the lines of the log, no transfer that was told to be committed may be lost, the sum must stay, and sessions that were
-open go on. If it can't mount a small file system or watch the calls of a server, it says that it didn't try that.
+open go on. With servers of which only `committed` waits for the disk no such transfer may be lost either. If it can't mount a small file system or watch the calls of a server, it says that it didn't try that.
 
 PART is one of %s.
 """
@@ -26,6 +26,7 @@ import sys
 import time
 
 import compare_store
+from data_early import try_early
 from data_faults import try_full, try_syncs
 from data_folders import try_arguments, try_damage, try_files, try_folders, try_torn
 from data_idle import try_idle
@@ -150,6 +151,7 @@ PARTS = {
     "upkeep": try_upkeep,
     "idle": try_idle,
     "kills": try_kills,
+    "early": try_early,
 }
 
 

@@ -234,12 +234,12 @@ def try_syncs(options, chance):
                 return
 
 
-def watched(it):
+def watched(it, *options):
     """A server and what watches it; None if that can't be."""
     watch = Watched()
     if platform.machine() != "x86_64":
         return None, None
-    server = it.start(prepare=watch.prepare, waits=False)
+    server = it.start(*options, prepare=watch.prepare, waits=False)
     if not watch.begin():
         server.process.kill()
         return None, None

@@ -210,6 +210,8 @@ def try_arguments(options, chance):
     wrong += ["--data data --segment %s s" % it for it in ("65535", "1099511627777", "x", "6e4", "=65536", "0x10000")]
     wrong += ["--idle", "--data data --idle s", "--data data s --idle", "--data data --idle -1 s"]
     wrong += ["--data data --idle 5 --idle 6 s"]
+    wrong += ["--early", "--early s h c", "--data data --early", "--data data --early --early s"]
+    wrong += ["--data data --early=1 s", "--data data --early= s"]
     times = ["0", "86401", "18446744073709551617", "x", "5s", "1.5", "1e1", "=5", "0x5", "+", "++5", "+0"]
     unread = ["--data data --idle %s s" % it for it in times] + ["--data data --idle= s", "--data data --idle=-1 s"]
     why = "ssi: --idle takes a number of seconds from 1 to 86400"
@@ -224,6 +226,7 @@ def try_arguments(options, chance):
         check("serve --idle with an empty value", (why, 2), empty[1:])
         check("serve --idle with an empty value: nothing is made", [], os.listdir(folder))
     right = ["--idle 86400", "--idle=+86400", "--segment 65536 --idle 0086400 --abort-on-close"]
+    right += ["--early", "--early --abort-on-close --segment 65536 --idle 86400"]
     for words in [*right, "--idle 86400 --segment 65536"]:
         with home() as it:
             server = it.start(*words.split())

@@ -103,8 +103,9 @@ class Bank:
     def live(self):
         """A server from its start until it is killed."""
         self.lives += 1
-        aborts = self.lives > 1 and self.chance.random() < 0.3
-        server = self.home.start(*["--abort-on-close"] * aborts)
+        options = self.options()
+        aborts = len(options) > 0
+        server = self.home.start(*options)
         check("killed: it says that it listens", True, len(server.said()) > 0)
         first = Client(server.peer(), "first", 1, self.chance.random())
         if self.lives == 1:
@@ -121,9 +122,17 @@ class Bank:
         server.end("kill")
         for client in clients:
             client.join(SECONDS)
+        self.forget([first, *clients])
         self.check_life([first, *clients], aborts)
         if self.chance.random() < 0.3:
             self.kill_early()
+
+    def options(self):
+        """Of the next server. With them it aborts at its start what is open."""
+        return ["--abort-on-close"] * (self.lives > 1 and self.chance.random() < 0.3)
+
+    def forget(self, clients):
+        """What clients were told by a server that was killed isn't taken for told, as far as it may be lost: nothing is."""
 
     def open_accounts(self, client):
         puts = ["put bank %s %d" % (account, START) for account in ACCOUNTS]
@@ -248,11 +257,26 @@ class Bank:
         self.counts["kills of a start"] += 1
 
 
-def try_kills(options, chance):
+class EarlyBank(Bank):
+    """The same, with servers of which only `committed` waits for the disk."""
+
+    def options(self):
+        return ["--early"]
+
+    def forget(self, clients):
+        """What came after the last `committed` to a connection may be lost."""
+        for client in clients:
+            for record in reversed(client.records):
+                if record.reply == "committed":
+                    break
+                record.reply = None
+
+
+def try_kills(options, chance, kind=Bank):
     counts, left = collections.Counter(), options.kills
     while left > 0:
         with home() as it:
-            bank = Bank(it, chance)
+            bank = kind(it, chance)
             for _ in range(min(left, FOLDER_KILLS)):
                 bank.live()
                 left -= 1

@@ -10,7 +10,7 @@ use ssi_data::{
     Clients, DataFault, Halt, Idle, Rotation, Segment, Started, abort_open, open_last, rotate,
     serve, start,
 };
-use ssi_durable::{Recovered, Server};
+use ssi_durable::{Recovered, Release, Server};
 use ssi_files::{FileDisk, Folder, SegmentNumber};
 use ssi_reads::IndexMarks;
 use ssi_store::LiveStore;
@@ -33,6 +33,7 @@ pub struct DataService<'a> {
     pub folder: &'a str,
     pub socket: &'a str,
     pub at_close: AtClose,
+    pub release: Release,
     /// The next segment is begun once the log has more bytes, and more than twice as many as its loads.
     pub segment: usize,
     /// A session that had no command for so many seconds is aborted.
@@ -88,7 +89,8 @@ impl<'a> DataService<'a> {
         served
     }
 
-    /// Locks the folder, and starts a server of what it has. With `AtClose::Abort` no session has a transaction then.
+    /// Locks the folder, and starts a server of what it has. With `AtClose::Abort` no session has a transaction then: those of
+    /// clients that had a connection are left. Nor has one with `Release::Early`, since replies to lines of it may be lost.
     fn opened(self, rt: &HostRuntime) -> Result<Opened, DataFault> {
         let mut folder = Folder::open(rt, self.folder)?;
         let Segment {
@@ -101,8 +103,8 @@ impl<'a> DataService<'a> {
         let Started {
             mut server,
             recovered,
-        } = start(alloc, store, disk, number.get())?;
-        if self.at_close == AtClose::Abort && !abort_open(alloc, &mut server)? {
+        } = start(alloc, store, disk, number.get(), self.release)?;
+        if self.aborts_at_start() && !abort_open(alloc, &mut server)? {
             return Err(DataFault::Memory);
         }
         Ok(Opened {
@@ -115,6 +117,10 @@ impl<'a> DataService<'a> {
             count,
             recovered,
         })
+    }
+
+    fn aborts_at_start(self) -> bool {
+        self.at_close == AtClose::Abort || self.release == Release::Early
     }
 
     /// For how long a session may have no command from now on, if there is a bound.

@@ -17,12 +17,14 @@ use clap::Error;
 use devices::Watched;
 use progress::{Counted, Progress, Reporter};
 use ssi_arguments::{
-    LeftOpen, Manner, NoTask, SEGMENT, Task, given_arguments, idle_seconds, segment_len, task_of,
+    LeftOpen, Manner, NoTask, Replies, SEGMENT, Task, given_arguments, idle_seconds, segment_len,
+    task_of,
 };
 use ssi_cli::{
     AtClose, Fault, ServingFault, Status, carry_out_commands, judge_stream, judge_texts,
     order_text, serve_commands, serve_commands_together,
 };
+use ssi_durable::Release;
 use std::alloc::AllocError;
 use std::fs::Files;
 use std::io::{BufWriter, Write};
@@ -75,6 +77,7 @@ fn carry_out<'a>(
             socket,
             folder,
             left_open,
+            replies,
             segment,
             idle,
         } => {
@@ -88,6 +91,7 @@ fn carry_out<'a>(
                 folder,
                 socket,
                 at_close: at_close(left_open),
+                release: release(replies),
                 segment,
                 idle,
             };
@@ -230,6 +234,13 @@ fn at_close(left_open: LeftOpen) -> AtClose {
     match left_open {
         LeftOpen::Keep => AtClose::Keep,
         LeftOpen::Abort => AtClose::Abort,
+    }
+}
+
+fn release(replies: Replies) -> Release {
+    match replies {
+        Replies::Synced => Release::Synced,
+        Replies::Early => Release::Early,
     }
 }
 

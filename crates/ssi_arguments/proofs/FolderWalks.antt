@@ -1,5 +1,5 @@
 -- That the parser accepts the arguments of `serve` with a folder, and finds the request in them.
-use Rattle.std.proofs.Common.{◌≡◌, ◌∙◌, ◌==◌, ◌&&◌, true, false, List, [], ◌∷◌, ◌++◌, refl, sym, ap, ap₂, append_assoc, codes}
+use Rattle.std.proofs.Common.{◌≡◌, ◌∙◌, ◌==◌, ◌&&◌, true, false, List, [], ◌∷◌, ◌++◌, refl, sym, ap, ap₂, append_assoc, arith, codes}
 use Rattle.std.specs.Prelude.{Option, Some, None}
 use Rattle.std.specs.List.{fold}
 use Rattle.std.proofs.lemmas.Bool.{and_parts, not-true}
@@ -7,10 +7,12 @@ use Rattle.clap.specs.Walk.{Held, Text, Walk, value, finished, nothing_held, opt
 use Rattle.clap.specs.Simple.{entered}
 use Rattle.clap.specs.Takes.{built_takes, level_passes, step_passes, turn_passes, walk_passes}
 use Rattle.clap.proofs.OnLiterals.{clap_on_literals}
-use Rattle.ssi_arguments.specs.Clauses.Arguments.{keep, are_plain, is_plain, arguments_of, folder_options_of, given, idle_option, left_open_option, paths_of, segment_option}
+use Rattle.ssi_arguments.specs.Clauses.Arguments.{keep, are_plain, is_plain, arguments_of, folder_options_of, given, idle_option, left_open_option, paths_of, replies_option, segment_option}
 use Rattle.ssi_arguments.specs.Clauses.CommandLine.{request_in}
 use Rattle.ssi_arguments.specs.declared.arguments.LeftOpen.{LeftOpen}
 use Rattle.ssi_arguments.specs.declared.arguments.LeftOpen.TheVariants.{Keep, Abort}
+use Rattle.ssi_arguments.specs.declared.arguments.Replies.{Replies}
+use Rattle.ssi_arguments.specs.declared.arguments.Replies.TheVariants.{Synced, Early}
 use Rattle.ssi_arguments.specs.declared.storage.Storage.TheVariants.{Folder}
 use Rattle.ssi_arguments.proofs.CommandWalks.{folder_parser, keeps, names, stops_at_serve, top_walk}
 use Rattle.ssi_arguments.proofs.PlainArguments.{at, turn_passes-plain}
@@ -83,18 +85,27 @@ abbrev pub timed_held : (g i : Option Text) → Text → Held
 timed_held g None f = kept_held g f
 timed_held g (Some n) f = idle_held (kept_held g f) (n ∷ [])
 
--- what the options leave
-abbrev pub folder_held : LeftOpen → (g i : Option Text) → Text → Held
-folder_held Keep g i f = timed_held g i f
-folder_held Abort g i f = (walked keeps.rules [] (at (timed_held g i f) 1) (codes "--abort-on-close")).held
+-- what is held after an option without a value
+abbrev pub flagged : Held → Text → Held
+flagged h name = (walked keeps.rules [] (at h 1) name).held
 
-pub aborts : (g i : Option Text) (f : Text)
-    → walked keeps.rules [] (at (timed_held g i f) 1) (codes "--abort-on-close") ≡ at (folder_held Abort g i f) 1
+-- what the options up to `--abort-on-close` leave
+abbrev pub left_held : LeftOpen → (g i : Option Text) → Text → Held
+left_held Keep g i f = timed_held g i f
+left_held Abort g i f = flagged (timed_held g i f) (codes "--abort-on-close")
+
+pub aborts : (h : Held) → walked keeps.rules [] (at h 1) (codes "--abort-on-close") ≡ at (flagged h (codes "--abort-on-close")) 1
 unfolding clap_on_literals
-aborts None None f = refl
-aborts None (Some n) f = refl
-aborts (Some m) None f = refl
-aborts (Some m) (Some n) f = refl
+aborts h = refl
+
+-- what the options leave
+abbrev pub folder_held : LeftOpen → Replies → (g i : Option Text) → Text → Held
+folder_held l Synced g i f = left_held l g i f
+folder_held l Early g i f = flagged (left_held l g i f) (codes "--early")
+
+pub goes_early : (h : Held) → walked keeps.rules [] (at h 1) (codes "--early") ≡ at (flagged h (codes "--early")) 1
+unfolding clap_on_literals
+goes_early h = refl
 
 -- plain arguments, apart
 plain_given : (g : Option Text) (others : List Text) → are_plain (given g ++ others) ≡ true
@@ -112,11 +123,15 @@ plain_parts f g i others p =
     (a.0, b.0, c.0, c.1)
 
 -- the options, apart
-pub options_apart : (l : LeftOpen) (g i : Option Text) (f : Text) (arguments : List Text) → folder_options_of l g i f ++ arguments
-    ≡ codes "--data" ∷ f ∷ segment_option g ++ (idle_option i ++ (left_open_option l ++ arguments))
-options_apart l g i f arguments =
-    ap (λ ws. codes "--data" ∷ f ∷ ws) (append_assoc (segment_option g ++ idle_option i) (left_open_option l) arguments
-    ∙ append_assoc (segment_option g) (idle_option i) (left_open_option l ++ arguments))
+pub options_apart : (l : LeftOpen) (r : Replies) (g i : Option Text) (f : Text) (arguments : List Text)
+    → folder_options_of l r g i f ++ arguments
+    ≡ codes "--data" ∷ f ∷ segment_option g ++ (idle_option i ++ (left_open_option l ++ (replies_option r ++ arguments)))
+options_apart l r g i f arguments =
+    let rest = replies_option r ++ arguments in
+    ap (λ ws. codes "--data" ∷ f ∷ ws)
+    (append_assoc (segment_option g ++ idle_option i ++ left_open_option l) (replies_option r) arguments
+    ∙ append_assoc (segment_option g ++ idle_option i) (left_open_option l) rest
+    ∙ append_assoc (segment_option g) (idle_option i) (left_open_option l ++ rest))
 
 pub plain_length : (n : Text) → are_plain (given (Some n)) ≡ true → is_plain n ≡ true
 plain_length n q = (and_parts (is_plain n) true q).0
@@ -150,18 +165,25 @@ timed_walks_on g (Some n) f arguments q =
 
 left_walks_on : (l : LeftOpen) (g i : Option Text) (f : Text) (arguments : List Text)
     → fold (walked keeps.rules []) (at (timed_held g i f) 1) (left_open_option l ++ arguments)
-    ≡ fold (walked keeps.rules []) (at (folder_held l g i f) 1) arguments
+    ≡ fold (walked keeps.rules []) (at (left_held l g i f) 1) arguments
 left_walks_on Keep g i f arguments = refl
-left_walks_on Abort g i f arguments = ap (λ w. fold (walked keeps.rules []) w arguments) (aborts g i f)
+left_walks_on Abort g i f arguments = ap (λ w. fold (walked keeps.rules []) w arguments) (aborts (timed_held g i f))
 
-pub walks_on : (l : LeftOpen) (g i : Option Text) (f : Text) (arguments : List Text) → is_plain f ≡ true
+replies_walk_on : (l : LeftOpen) (r : Replies) (g i : Option Text) (f : Text) (arguments : List Text)
+    → fold (walked keeps.rules []) (at (left_held l g i f) 1) (replies_option r ++ arguments)
+    ≡ fold (walked keeps.rules []) (at (folder_held l r g i f) 1) arguments
+replies_walk_on l Synced g i f arguments = refl
+replies_walk_on l Early g i f arguments = ap (λ w. fold (walked keeps.rules []) w arguments) (goes_early (left_held l g i f))
+
+pub walks_on : (l : LeftOpen) (r : Replies) (g i : Option Text) (f : Text) (arguments : List Text) → is_plain f ≡ true
     → are_plain (given g) ≡ true → are_plain (given i) ≡ true
-    → walk keeps.rules [] nothing_held (folder_options_of l g i f ++ arguments)
-    ≡ fold (walked keeps.rules []) (at (folder_held l g i f) 1) arguments
-walks_on l g i f arguments p q r =
-    ap (walk keeps.rules [] nothing_held) (options_apart l g i f arguments)
-    ∙ kept_walks_on g f (idle_option i ++ (left_open_option l ++ arguments)) p q
-    ∙ timed_walks_on g i f (left_open_option l ++ arguments) r ∙ left_walks_on l g i f arguments
+    → walk keeps.rules [] nothing_held (folder_options_of l r g i f ++ arguments)
+    ≡ fold (walked keeps.rules []) (at (folder_held l r g i f) 1) arguments
+walks_on l r g i f arguments p q t =
+    let rest = replies_option r ++ arguments in
+    ap (walk keeps.rules [] nothing_held) (options_apart l r g i f arguments)
+    ∙ kept_walks_on g f (idle_option i ++ (left_open_option l ++ rest)) p q
+    ∙ timed_walks_on g i f (left_open_option l ++ rest) t ∙ left_walks_on l g i f rest ∙ replies_walk_on l r g i f arguments
 
 passes_data : turn_passes keeps [] (at nothing_held 1) (codes "--data") ≡ true
 unfolding clap_on_literals
@@ -190,10 +212,12 @@ passes_seconds h (b ∷ bs) p = let e = not-true (b == 45) p in rw (e, e) refl
 
 passes_abort : (g i : Option Text) (f : Text) → turn_passes keeps [] (at (timed_held g i f) 1) (codes "--abort-on-close") ≡ true
 unfolding clap_on_literals
-passes_abort None None f = refl
-passes_abort None (Some n) f = refl
-passes_abort (Some m) None f = refl
-passes_abort (Some m) (Some n) f = refl
+passes_abort g i f = grind arith
+
+passes_early : (l : LeftOpen) (g i : Option Text) (f : Text)
+    → turn_passes keeps [] (at (left_held l g i f) 1) (codes "--early") ≡ true
+unfolding clap_on_literals
+passes_early l g i f = grind arith
 
 -- an option whose value is the next argument
 pass_two : (w₁ w₂ w₃ : Walk) (name text : Text) (arguments : List Text) → turn_passes keeps [] w₁ name ≡ true
@@ -236,94 +260,78 @@ pass_timed g (Some n) f arguments q e =
     (passes_idle g f) (awaits_seconds g f) (passes_seconds h n m) (takes_seconds h n m) e
 
 pass_left : (l : LeftOpen) (g i : Option Text) (f : Text) (arguments : List Text)
-    → walk_passes keeps [] (at (folder_held l g i f) 1) arguments ≡ true
+    → walk_passes keeps [] (at (left_held l g i f) 1) arguments ≡ true
     → walk_passes keeps [] (at (timed_held g i f) 1) (left_open_option l ++ arguments) ≡ true
 pass_left Keep g i f arguments e = e
 pass_left Abort g i f arguments e =
-    pass_one (at (timed_held g i f) 1) (at (folder_held Abort g i f) 1) (codes "--abort-on-close") arguments
-    (passes_abort g i f) (aborts g i f) e
+    let h = timed_held g i f in
+    pass_one (at h 1) (at (left_held Abort g i f) 1) (codes "--abort-on-close") arguments (passes_abort g i f) (aborts h) e
 
-pass_on : (l : LeftOpen) (g i : Option Text) (f : Text) (arguments : List Text) → is_plain f ≡ true
-    → are_plain (given g) ≡ true → are_plain (given i) ≡ true → walk_passes keeps [] (at (folder_held l g i f) 1) arguments ≡ true
-    → walk_passes keeps [] (at nothing_held 1) (folder_options_of l g i f ++ arguments) ≡ true
-pass_on l g i f arguments p q r e =
-    ap (walk_passes keeps [] (at nothing_held 1)) (options_apart l g i f arguments)
-    ∙ pass_kept g f (idle_option i ++ (left_open_option l ++ arguments)) p q
-    (pass_timed g i f (left_open_option l ++ arguments) r (pass_left l g i f arguments e))
+pass_replies : (l : LeftOpen) (r : Replies) (g i : Option Text) (f : Text) (arguments : List Text)
+    → walk_passes keeps [] (at (folder_held l r g i f) 1) arguments ≡ true
+    → walk_passes keeps [] (at (left_held l g i f) 1) (replies_option r ++ arguments) ≡ true
+pass_replies l Synced g i f arguments e = e
+pass_replies l Early g i f arguments e =
+    let h = left_held l g i f in
+    pass_one (at h 1) (at (folder_held l Early g i f) 1) (codes "--early") arguments (passes_early l g i f) (goes_early h) e
+
+pass_on : (l : LeftOpen) (r : Replies) (g i : Option Text) (f : Text) (arguments : List Text) → is_plain f ≡ true
+    → are_plain (given g) ≡ true → are_plain (given i) ≡ true → walk_passes keeps [] (at (folder_held l r g i f) 1) arguments ≡ true
+    → walk_passes keeps [] (at nothing_held 1) (folder_options_of l r g i f ++ arguments) ≡ true
+pass_on l r g i f arguments p q t e =
+    let rest = replies_option r ++ arguments in
+    ap (walk_passes keeps [] (at nothing_held 1)) (options_apart l r g i f arguments)
+    ∙ pass_kept g f (idle_option i ++ (left_open_option l ++ rest)) p q
+    (pass_timed g i f (left_open_option l ++ rest) t (pass_left l g i f rest (pass_replies l r g i f arguments e)))
 
 -- ---- the socket
 
-passes_one : (l : LeftOpen) (g i : Option Text) (f : Text) → step_passes keeps 1 (folder_held l g i f) value ≡ true
+passes_one : (l : LeftOpen) (r : Replies) (g i : Option Text) (f : Text) → step_passes keeps 1 (folder_held l r g i f) value ≡ true
 unfolding clap_on_literals
-passes_one Keep None None f = refl
-passes_one Keep None (Some n) f = refl
-passes_one Keep (Some m) None f = refl
-passes_one Keep (Some m) (Some n) f = refl
-passes_one Abort None None f = refl
-passes_one Abort None (Some n) f = refl
-passes_one Abort (Some m) None f = refl
-passes_one Abort (Some m) (Some n) f = refl
+passes_one l r g i f = grind arith
 
-keep_ends_well : (l : LeftOpen) (g i : Option Text) (s f : Text) → ends_well keeps (one_path (folder_held l g i f) keeps s) ≡ true
+keep_ends_well : (l : LeftOpen) (r : Replies) (g i : Option Text) (s f : Text)
+    → ends_well keeps (one_path (folder_held l r g i f) keeps s) ≡ true
 unfolding clap_on_literals
-keep_ends_well Keep None None s f = refl
-keep_ends_well Keep None (Some n) s f = refl
-keep_ends_well Keep (Some m) None s f = refl
-keep_ends_well Keep (Some m) (Some n) s f = refl
-keep_ends_well Abort None None s f = refl
-keep_ends_well Abort None (Some n) s f = refl
-keep_ends_well Abort (Some m) None s f = refl
-keep_ends_well Abort (Some m) (Some n) s f = refl
+keep_ends_well l r g i s f = grind arith
 
-found_keep : (l : LeftOpen) (g i : Option Text) (s f : Text)
-    → request_in Folder (Some (codes "serve", finished keeps.rules (one_path (folder_held l g i f) keeps s).held)) ≡ keep l g i s f
+found_keep : (l : LeftOpen) (r : Replies) (g i : Option Text) (s f : Text)
+    → request_in Folder (Some (codes "serve", finished keeps.rules (one_path (folder_held l r g i f) keeps s).held)) ≡ keep l r g i s f
 unfolding clap_on_literals
-found_keep Keep None None s f = refl
-found_keep Keep None (Some n) s f = refl
-found_keep Keep (Some m) None s f = refl
-found_keep Keep (Some m) (Some n) s f = refl
-found_keep Abort None None s f = refl
-found_keep Abort None (Some n) s f = refl
-found_keep Abort (Some m) None s f = refl
-found_keep Abort (Some m) (Some n) s f = refl
+found_keep l r g i s f = grind arith
 
-passes_to_keep : (l : LeftOpen) (g i : Option Text) (s f : Text)
-    → level_passes folder_parser.top names nothing_held (arguments_of (keep l g i s f)) true ≡ true
+passes_to_keep : (l : LeftOpen) (r : Replies) (g i : Option Text) (s f : Text)
+    → level_passes folder_parser.top names nothing_held (arguments_of (keep l r g i s f)) true ≡ true
 unfolding clap_on_literals
-passes_to_keep Keep None None s f = refl
-passes_to_keep Keep None (Some n) s f = refl
-passes_to_keep Keep (Some m) None s f = refl
-passes_to_keep Keep (Some m) (Some n) s f = refl
-passes_to_keep Abort None None s f = refl
-passes_to_keep Abort None (Some n) s f = refl
-passes_to_keep Abort (Some m) None s f = refl
-passes_to_keep Abort (Some m) (Some n) s f = refl
+passes_to_keep l r g i s f = grind arith
 
-module _ (l : LeftOpen) (g i : Option Text) (s f : Text) (p : is_plain f ≡ true) (o : are_plain (given g) ≡ true)
-    (r : are_plain (given i) ≡ true) (q : is_plain s ≡ true) where
-  walk_keep : walk keeps.rules [] nothing_held (folder_options_of l g i f ++ s ∷ []) ≡ one_path (folder_held l g i f) keeps s
-  walk_keep = walks_on l g i f (s ∷ []) p o r ∙ walk_one (folder_held l g i f) keeps s q
+module _ (l : LeftOpen) (r : Replies) (g i : Option Text) (s f : Text) (p : is_plain f ≡ true) (o : are_plain (given g) ≡ true)
+    (t : are_plain (given i) ≡ true) (q : is_plain s ≡ true) where
+  walk_keep : walk keeps.rules [] nothing_held (folder_options_of l r g i f ++ s ∷ []) ≡ one_path (folder_held l r g i f) keeps s
+  walk_keep = walks_on l r g i f (s ∷ []) p o t ∙ walk_one (folder_held l r g i f) keeps s q
 
-  socket_passes : walk_passes keeps [] (at (folder_held l g i f) 1) (s ∷ []) ≡ true
+  socket_passes : walk_passes keeps [] (at (folder_held l r g i f) 1) (s ∷ []) ≡ true
   unfolding walk_passes
-  socket_passes = ap (λ a. a && true) (turn_passes-plain [] (folder_held l g i f) 1 keeps s q refl ∙ passes_one l g i f)
+  socket_passes = ap (λ a. a && true) (turn_passes-plain [] (folder_held l r g i f) 1 keeps s q refl ∙ passes_one l r g i f)
 
-  passes_keep : level_passes keeps [] nothing_held (folder_options_of l g i f ++ s ∷ []) false ≡ true
+  passes_keep : level_passes keeps [] nothing_held (folder_options_of l r g i f ++ s ∷ []) false ≡ true
   passes_keep =
-      ap₂ (λ a b. a && b) (pass_on l g i f (s ∷ []) p o r socket_passes) (ap (ends_well keeps) walk_keep ∙ keep_ends_well l g i s f)
+      ap₂ (λ a b. a && b) (pass_on l r g i f (s ∷ []) p o t socket_passes) (ap (ends_well keeps) walk_keep ∙ keep_ends_well l r g i s f)
 
-pub taken_folder : (l : LeftOpen) (g i : Option Text) (s f : Text) → are_plain (paths_of (keep l g i s f)) ≡ true
-    → built_takes folder_parser nothing_held (arguments_of (keep l g i s f)) ≡ true
-taken_folder l g i s f p =
+pub taken_folder : (l : LeftOpen) (r : Replies) (g i : Option Text) (s f : Text) → are_plain (paths_of (keep l r g i s f)) ≡ true
+    → built_takes folder_parser nothing_held (arguments_of (keep l r g i s f)) ≡ true
+taken_folder l r g i s f p =
     let plain = plain_parts f g i (s ∷ []) p in
     let q = (and_parts (is_plain s) true plain.3).0 in
-    rw (stops_at_serve (folder_options_of l g i f ++ s ∷ []), passes_keep l g i s f plain.0 plain.1 plain.2 q, passes_to_keep l g i s f) refl
+    let stops = stops_at_serve (folder_options_of l r g i f ++ s ∷ []) in
+    rw (stops, passes_keep l r g i s f plain.0 plain.1 plain.2 q, passes_to_keep l r g i s f) refl
 
-pub found_folder : (l : LeftOpen) (g i : Option Text) (s f : Text) → are_plain (paths_of (keep l g i s f)) ≡ true
-    → request_in Folder (entered folder_parser (top_walk (arguments_of (keep l g i s f))).stopped) ≡ keep l g i s f
-found_folder l g i s f p =
+pub found_folder : (l : LeftOpen) (r : Replies) (g i : Option Text) (s f : Text) → are_plain (paths_of (keep l r g i s f)) ≡ true
+    → request_in Folder (entered folder_parser (top_walk (arguments_of (keep l r g i s f))).stopped) ≡ keep l r g i s f
+found_folder l r g i s f p =
     let plain = plain_parts f g i (s ∷ []) p in
     let q = (and_parts (is_plain s) true plain.3).0 in
-    ap (λ stop. request_in Folder (entered folder_parser stop)) (stops_at_serve (folder_options_of l g i f ++ s ∷ []))
-    ∙ ap (λ w. request_in Folder (Some (codes "serve", finished keeps.rules w.held))) (walk_keep l g i s f plain.0 plain.1 plain.2 q)
-    ∙ found_keep l g i s f
+    ap (λ stop. request_in Folder (entered folder_parser stop)) (stops_at_serve (folder_options_of l r g i f ++ s ∷ []))
+    ∙ ap (λ w. request_in Folder (Some (codes "serve", finished keeps.rules w.held)))
+    (walk_keep l r g i s f plain.0 plain.1 plain.2 q)
+    ∙ found_keep l r g i s f

@@ -1,5 +1,5 @@
 -- What the parser refuses beside a folder, and that a store is kept in a folder only if the option asks for it.
-use Rattle.std.proofs.Common.{◌≡◌, ◌∙◌, ℕ, ◌==◌, Bool, true, false, List, [], ◌∷◌, ◌++◌, refl, sym, ap, codes, cond, drop, slice_index_or}
+use Rattle.std.proofs.Common.{◌≡◌, ◌∙◌, ℕ, ◌==◌, Bool, true, false, List, [], ◌∷◌, ◌++◌, refl, sym, ap, arith, codes, cond, drop, slice_index_or}
 use Rattle.std.specs.Prelude.{◌&&◌, Option, Some, None, if◌then◌else◌, is_some}
 use Rattle.std.specs.Option.{option_map_or}
 use Rattle.std.specs.Str.{bytes_eq}
@@ -9,15 +9,17 @@ use Rattle.clap.specs.Walk.{Row, Rule, Text, arg_by_index, arg_by_long, finished
 use Rattle.clap.specs.Simple.{App, built, entered, help_rule, names_of, subcommand_of}
 use Rattle.clap.specs.Faults.{built_fault, check_fault, entered_fault, fault_of, turn_fault, walk_fault}
 use Rattle.clap.proofs.OnLiterals.{clap_on_literals}
-use Rattle.ssi_arguments.specs.Clauses.Arguments.{Request, are_plain, is_plain, folder_options_of, given, idle_option, left_open_option, segment_option, storage_for}
+use Rattle.ssi_arguments.specs.Clauses.Arguments.{Request, are_plain, is_plain, folder_options_of, given, idle_option, left_open_option, replies_option, segment_option, storage_for}
 use Rattle.ssi_arguments.specs.Clauses.CommandLine.{app_for, request_in, ssi_app}
 use Rattle.ssi_arguments.specs.Clauses.Storage.{has_option, storage_in}
 use Rattle.ssi_arguments.specs.declared.arguments.LeftOpen.{LeftOpen}
 use Rattle.ssi_arguments.specs.declared.arguments.LeftOpen.TheVariants.{Keep, Abort}
+use Rattle.ssi_arguments.specs.declared.arguments.Replies.{Replies}
+use Rattle.ssi_arguments.specs.declared.arguments.Replies.TheVariants.{Synced, Early}
 use Rattle.ssi_arguments.specs.declared.storage.Storage.{Storage}
 use Rattle.ssi_arguments.specs.declared.storage.Storage.TheVariants.{Files, Folder}
 use Rattle.ssi_arguments.proofs.CommandWalks.{folder_parser, keeps, names, stops_at_serve, top_walk}
-use Rattle.ssi_arguments.proofs.FolderWalks.{aborts, awaits_folder, awaits_length, awaits_seconds, data_held, folder_held, idle_held, kept_held, options_apart, plain_length, plain_parts, segment_held, takes_folder, takes_length, takes_seconds, timed_held, waiting_for, walks_on}
+use Rattle.ssi_arguments.proofs.FolderWalks.{aborts, awaits_folder, awaits_length, awaits_seconds, data_held, folder_held, goes_early, idle_held, kept_held, left_held, options_apart, plain_length, plain_parts, segment_held, takes_folder, takes_length, takes_seconds, timed_held, waiting_for, walks_on}
 use Rattle.ssi_arguments.proofs.NoOtherRequests.{after_below, after_walk, fault_at, first_turn, leaf_fault, no_check}
 use Rattle.ssi_arguments.proofs.PlainArguments.{at, turn_fault-plain}
 use Rattle.ssi_arguments.proofs.TakesRequests.{one_path, walk_one}
@@ -111,46 +113,51 @@ after_timed_fault g (Some n) f arguments q e =
 
 after_left_fault : (l : LeftOpen) (g i : Option Text) (f : Text) (arguments : List Text)
     → walk_fault keeps [] (at (timed_held g i f) 1) (left_open_option l ++ arguments) ≡ []
-    → walk_fault keeps [] (at (folder_held l g i f) 1) arguments ≡ []
+    → walk_fault keeps [] (at (left_held l g i f) 1) arguments ≡ []
 after_left_fault Keep g i f arguments e = e
 after_left_fault Abort g i f arguments e =
-    let t = first_turn keeps [] (at (timed_held g i f) 1) (codes "--abort-on-close") arguments e in
-    sym (ap (λ w. walk_fault keeps [] w arguments) (aborts g i f)) ∙ t.1
+    let h = timed_held g i f in
+    let t = first_turn keeps [] (at h 1) (codes "--abort-on-close") arguments e in
+    sym (ap (λ w. walk_fault keeps [] w arguments) (aborts h)) ∙ t.1
 
-after_options_fault : (l : LeftOpen) (g i : Option Text) (f : Text) (arguments : List Text) → is_plain f ≡ true
+after_replies_fault : (l : LeftOpen) (r : Replies) (g i : Option Text) (f : Text) (arguments : List Text)
+    → walk_fault keeps [] (at (left_held l g i f) 1) (replies_option r ++ arguments) ≡ []
+    → walk_fault keeps [] (at (folder_held l r g i f) 1) arguments ≡ []
+after_replies_fault l Synced g i f arguments e = e
+after_replies_fault l Early g i f arguments e =
+    let h = left_held l g i f in
+    let t = first_turn keeps [] (at h 1) (codes "--early") arguments e in
+    sym (ap (λ w. walk_fault keeps [] w arguments) (goes_early h)) ∙ t.1
+
+after_options_fault : (l : LeftOpen) (r : Replies) (g i : Option Text) (f : Text) (arguments : List Text) → is_plain f ≡ true
     → are_plain (given g) ≡ true → are_plain (given i) ≡ true
-    → walk_fault keeps [] (at nothing_held 1) (folder_options_of l g i f ++ arguments) ≡ []
-    → walk_fault keeps [] (at (folder_held l g i f) 1) arguments ≡ []
-after_options_fault l g i f arguments p q r e =
-    let apart = sym (ap (walk_fault keeps [] (at nothing_held 1)) (options_apart l g i f arguments)) ∙ e in
-    after_left_fault l g i f arguments (after_timed_fault g i f (left_open_option l ++ arguments) r
-    (after_kept_fault g f (idle_option i ++ (left_open_option l ++ arguments)) p q apart))
+    → walk_fault keeps [] (at nothing_held 1) (folder_options_of l r g i f ++ arguments) ≡ []
+    → walk_fault keeps [] (at (folder_held l r g i f) 1) arguments ≡ []
+after_options_fault l r g i f arguments p q t e =
+    let rest = replies_option r ++ arguments in
+    let apart = sym (ap (walk_fault keeps [] (at nothing_held 1)) (options_apart l r g i f arguments)) ∙ e in
+    after_replies_fault l r g i f arguments (after_left_fault l g i f rest
+    (after_timed_fault g i f (left_open_option l ++ rest) t
+    (after_kept_fault g f (idle_option i ++ (left_open_option l ++ rest)) p q apart)))
 
-no_socket_fault : (l : LeftOpen) (g i : Option Text) (f : Text)
-    → check_fault keeps (finished keeps.rules (folder_held l g i f)) false ≡ [] → ⊥
+no_socket_fault : (l : LeftOpen) (r : Replies) (g i : Option Text) (f : Text)
+    → check_fault keeps (finished keeps.rules (folder_held l r g i f)) false ≡ [] → ⊥
 unfolding clap_on_literals
-no_socket_fault Keep None None f e = absurd (cc e)
-no_socket_fault Keep None (Some n) f e = absurd (cc e)
-no_socket_fault Keep (Some m) None f e = absurd (cc e)
-no_socket_fault Keep (Some m) (Some n) f e = absurd (cc e)
-no_socket_fault Abort None None f e = absurd (cc e)
-no_socket_fault Abort None (Some n) f e = absurd (cc e)
-no_socket_fault Abort (Some m) None f e = absurd (cc e)
-no_socket_fault Abort (Some m) (Some n) f e = absurd (cc e)
+no_socket_fault l r g i f e = grind arith
 
-module _ (l : LeftOpen) (g i : Option Text) (f : Text) (p : is_plain f ≡ true) (o : are_plain (given g) ≡ true)
-    (r : are_plain (given i) ≡ true) where
-  keep_alone : leaf_fault keeps (folder_options_of l g i f ++ []) ≡ [] → ⊥
+module _ (l : LeftOpen) (r : Replies) (g i : Option Text) (f : Text) (p : is_plain f ≡ true) (o : are_plain (given g) ≡ true)
+    (t : are_plain (given i) ≡ true) where
+  keep_alone : leaf_fault keeps (folder_options_of l r g i f ++ []) ≡ [] → ⊥
   keep_alone e =
-      let missing = ap (λ w. check_fault keeps (finished keeps.rules w.held) false) (walks_on l g i f [] p o r) in
-      no_socket_fault l g i f (sym missing ∙ no_check keeps [] (folder_options_of l g i f ++ []) false [] e)
+      let missing = ap (λ w. check_fault keeps (finished keeps.rules w.held) false) (walks_on l r g i f [] p o t) in
+      no_socket_fault l r g i f (sym missing ∙ no_check keeps [] (folder_options_of l r g i f ++ []) false [] e)
 
   keep_more : (s argument : Text) (arguments : List Text) → is_plain s ≡ true → is_plain argument ≡ true
-      → leaf_fault keeps (folder_options_of l g i f ++ s ∷ argument ∷ arguments) ≡ [] → ⊥
+      → leaf_fault keeps (folder_options_of l r g i f ++ s ∷ argument ∷ arguments) ≡ [] → ⊥
   keep_more s argument arguments q v e =
-      let b = folder_held l g i f in
-      let rest = after_options_fault l g i f (s ∷ argument ∷ arguments) p o r
-      (after_walk keeps [] (folder_options_of l g i f ++ s ∷ argument ∷ arguments) false [] e).0 in
+      let b = folder_held l r g i f in
+      let rest = after_options_fault l r g i f (s ∷ argument ∷ arguments) p o t
+      (after_walk keeps [] (folder_options_of l r g i f ++ s ∷ argument ∷ arguments) false [] e).0 in
       let t₁ = first_turn keeps [] (at b 1) s (argument ∷ arguments) rest in
       let t₂ = first_turn keeps [] (walked keeps.rules [] (at b 1) s) argument arguments t₁.1 in
       let stray : turn_fault keeps [] (one_path b keeps s) argument ≡ [] =
@@ -158,7 +165,7 @@ module _ (l : LeftOpen) (g i : Option Text) (f : Text) (p : is_plain f ≡ true)
       let none = sym (turn_fault-plain [] (one_path b keeps s).held 2 keeps argument v refl) ∙ stray in
       absurd (cc none)
 
-  one_socket : (others : List Text) → are_plain others ≡ true → leaf_fault keeps (folder_options_of l g i f ++ others) ≡ []
+  one_socket : (others : List Text) → are_plain others ≡ true → leaf_fault keeps (folder_options_of l r g i f ++ others) ≡ []
       → (s : Text) × (others ≡ s ∷ [])
   one_socket [] q e = absurd (keep_alone e)
   one_socket (s ∷ []) q e = (s, refl)
@@ -174,21 +181,21 @@ leaf_fault-none arguments e =
     sym (ap (entered_fault folder_parser) (stops_at_serve arguments))
     ∙ (after_below folder_parser.top names (codes "serve" ∷ arguments) (is_some (entered folder_parser stop)) (entered_fault folder_parser stop) e).0
 
-storage_in-options : (l : LeftOpen) (g i : Option Text) (f : Text) (others : List Text)
-    → storage_in (codes "serve" ∷ folder_options_of l g i f ++ others) ≡ Folder
-storage_in-options l g i f others = refl
+storage_in-options : (l : LeftOpen) (r : Replies) (g i : Option Text) (f : Text) (others : List Text)
+    → storage_in (codes "serve" ∷ folder_options_of l r g i f ++ others) ≡ Folder
+storage_in-options l r g i f others = refl
 
 -- after the options of a folder a single plain argument is accepted
-pub asks_to_keep : (arguments : List Text) (l : LeftOpen) (g i : Option Text) (f : Text) (others : List Text)
-    → are_plain (f ∷ given g ++ given i ++ others) ≡ true → drop 1 arguments ≡ codes "serve" ∷ folder_options_of l g i f ++ others
+pub asks_to_keep : (arguments : List Text) (l : LeftOpen) (r : Replies) (g i : Option Text) (f : Text) (others : List Text)
+    → are_plain (f ∷ given g ++ given i ++ others) ≡ true → drop 1 arguments ≡ codes "serve" ∷ folder_options_of l r g i f ++ others
     → fault_of (app_for arguments) arguments ≡ [] → (s : Text) × (others ≡ s ∷ [])
-asks_to_keep arguments l g i f others p e none =
+asks_to_keep arguments l r g i f others p e none =
     let plain = plain_parts f g i others p in
-    let whole : fault_at (codes "serve" ∷ folder_options_of l g i f ++ others) ≡ [] = sym (ap fault_at e) ∙ none in
-    let folder : built_fault folder_parser nothing_held (codes "serve" ∷ folder_options_of l g i f ++ others) ≡ [] =
-    sym (ap (λ storage. built_fault (built (ssi_app storage)) nothing_held (codes "serve" ∷ folder_options_of l g i f ++ others))
-    (storage_in-options l g i f others)) ∙ whole in
-    one_socket l g i f plain.0 plain.1 plain.2 others plain.3 (leaf_fault-none (folder_options_of l g i f ++ others) folder)
+    let whole : fault_at (codes "serve" ∷ folder_options_of l r g i f ++ others) ≡ [] = sym (ap fault_at e) ∙ none in
+    let folder : built_fault folder_parser nothing_held (codes "serve" ∷ folder_options_of l r g i f ++ others) ≡ [] =
+    sym (ap (λ storage. built_fault (built (ssi_app storage)) nothing_held (codes "serve" ∷ folder_options_of l r g i f ++ others))
+    (storage_in-options l r g i f others)) ∙ whole in
+    one_socket l r g i f plain.0 plain.1 plain.2 others plain.3 (leaf_fault-none (folder_options_of l r g i f ++ others) folder)
 
 -- ---- no `--concurrent` beside the folder
 

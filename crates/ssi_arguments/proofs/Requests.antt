@@ -30,9 +30,9 @@ takes_with Files arguments r k p e = (
   ap₂ (λ a b. a && b) (simple Files) (ap (built_takes parser nothing_held) e ∙ taken r k p),
   ap (λ ws. request_in Files (entered parser (top_walk ws).stopped)) e ∙ found r k p,
 )
-takes_with Folder arguments (keep l g i s f) k p e = (
-  ap₂ (λ a b. a && b) (simple Folder) (ap (built_takes folder_parser nothing_held) e ∙ taken_folder l g i s f p),
-  ap (λ ws. request_in Folder (entered folder_parser (top_walk ws).stopped)) e ∙ found_folder l g i s f p,
+takes_with Folder arguments (keep l r g i s f) k p e = (
+  ap₂ (λ a b. a && b) (simple Folder) (ap (built_takes folder_parser nothing_held) e ∙ taken_folder l r g i s f p),
+  ap (λ ws. request_in Folder (entered folder_parser (top_walk ws).stopped)) e ∙ found_folder l r g i s f p,
 )
 takes_with Folder arguments pipe k p e = absurd (cc k)
 takes_with Folder arguments (audit h c) k p e = absurd (cc k)
@@ -57,5 +57,5 @@ plain_paths (script h c) p = p
 plain_paths (serve InTurn s h c) p = p
 plain_paths (serve AtOnce s h c) p = absurd (cc p)
 plain_paths (serve Aborting s h c) p = absurd (cc p)
-plain_paths (keep l g i s f) p = absurd (cc p)
+plain_paths (keep l r g i s f) p = absurd (cc p)
 plain_paths (seal f) p = p

@@ -50,5 +50,5 @@ storage_in-arguments (script h c) p = refl
 storage_in-arguments (serve InTurn s h c) p = ap (λ b. if b then Folder else Files) (no_data (s ∷ h ∷ c ∷ []) p)
 storage_in-arguments (serve AtOnce s h c) p = ap (λ b. if b then Folder else Files) (no_data (s ∷ h ∷ c ∷ []) p)
 storage_in-arguments (serve Aborting s h c) p = ap (λ b. if b then Folder else Files) (no_data (s ∷ h ∷ c ∷ []) p)
-storage_in-arguments (keep l g i s f) p = refl
+storage_in-arguments (keep l r g i s f) p = refl
 storage_in-arguments (seal f) p = refl

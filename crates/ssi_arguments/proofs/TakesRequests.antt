@@ -242,7 +242,7 @@ taken (script h c) k p =
 taken (serve m s h c) k p =
     let plain = all_plain s h c p in
     rw (stops_at_serve (options_of m ++ s ∷ h ∷ c ∷ []), passes_serve m s h c plain.0 plain.1 plain.2, passes_to_serve m s h c) refl
-taken (keep l g i s f) k p = absurd (cc k)
+taken (keep l r g i s f) k p = absurd (cc k)
 taken (seal f) k p = rw (stops_at_seal (f ∷ []), passes_seal f (path_plain f p), passes_to_seal f) refl
 
 pub found : (r : Request) → storage_for r ≡ Files → are_plain (paths_of r) ≡ true
@@ -267,7 +267,7 @@ found (serve m s h c) k p =
     ∙ ap (λ w. request_in Files (Some (codes "serve", finished serves.rules w.held)))
     (walk_serve m s h c plain.0 plain.1 plain.2)
     ∙ found_serve m s h c
-found (keep l g i s f) k p = absurd (cc k)
+found (keep l r g i s f) k p = absurd (cc k)
 found (seal f) k p =
     ap (λ stop. request_in Files (entered parser stop)) (stops_at_seal (f ∷ []))
     ∙ ap (λ w. request_in Files (Some (codes "seal", finished seals.rules w.held))) (walk_one nothing_held seals f (path_plain f p))

@@ -3,10 +3,11 @@
 ghost use Rattle.std.specs.Prelude.{◌≡◌, ◌≢◌, ◌⊎◌, ℕ, List, [], ◌∷◌, ◌++◌, Option, option_map, true, map, drop, codes, string_bytes, IfOk, IfErr, IsErr, IsErrAnd, MatchResult};
 ghost use Rattle.clap.specs.Words.{rows_of, found_of, first_of, kind_of, subcommand_rows_of, subcommand_of, fault_of};
 ghost use Rattle.clap.specs.declared.error.kind.ErrorKind.TheVariants.{OutOfMemory, DisplayHelp, DisplayVersion};
-ghost use Rattle.ssi_arguments.specs.Clauses.CommandLine.{app_for, path_in, is_given, manner_in, left_open_in, request_in, request_named, request_served};
+ghost use Rattle.ssi_arguments.specs.Clauses.CommandLine.{app_for, path_in, is_given, manner_in, left_open_in, replies_in, request_in, request_named, request_served};
 ghost use Rattle.ssi_arguments.specs.Clauses.Arguments.{Request, request_of, storage_for, arguments_of, folder_options_of, given, paths_of, are_plain, IsRefusal};
 ghost use Rattle.ssi_arguments.specs.Clauses.Storage.{has_option, storage_in};
 ghost use Rattle.ssi_arguments.specs.declared.arguments.LeftOpen.{LeftOpen};
+ghost use Rattle.ssi_arguments.specs.declared.arguments.Replies.{Replies};
 ghost use Rattle.ssi_arguments.specs.declared.storage.Storage.TheVariants.{Folder};
 ghost use Rattle.ssi_arguments.specs.declared.arguments.NoTask.TheVariants.{Text, Memory};
 
@@ -53,6 +54,7 @@ pub enum Task<'a> {
         socket: &'a str,
         folder: &'a str,
         left_open: LeftOpen,
+        replies: Replies,
         segment: Option<&'a str>,
         idle: Option<&'a str>,
     },
@@ -80,6 +82,15 @@ pub enum LeftOpen {
     Keep,
     /// They are aborted.
     Abort,
+}
+
+/// Which replies wait for the disk.
+#[derive(Clone, Copy, Debug, PartialEq, Eq)]
+pub enum Replies {
+    /// Each waits until its line is on the disk.
+    Synced,
+    /// Only `committed` waits for the disk. Sessions that have a transaction are aborted at a start.
+    Early,
 }
 
 /// Why the arguments ask for no task.
@@ -159,9 +170,9 @@ pub fn task_of<'a>(alloc: Global, arguments: &'a [String]) -> Result<Task<'a>, N
     ensures kept { let rest = drop 1 (map string_bytes arguments.entry.now) in
         IfOk result (λ task. storage_for (request_of task) ≡ storage_in rest) }
     ensures kept_alone { let rest = drop 1 (map string_bytes arguments.entry.now) in
-        (left_open : LeftOpen) (segment idle : Option (List ℕ)) (folder : List ℕ) (others : List (List ℕ))
+        (left_open : LeftOpen) (replies : Replies) (segment idle : Option (List ℕ)) (folder : List ℕ) (others : List (List ℕ))
         → are_plain (folder ∷ given segment ++ given idle ++ others) ≡ true
-        → rest ≡ codes "serve" ∷ folder_options_of left_open segment idle folder ++ others
+        → rest ≡ codes "serve" ∷ folder_options_of left_open replies segment idle folder ++ others
         → IfOk result (λ task. rest ≡ arguments_of (request_of task)) }
     ensures kept_at_once { let rest = drop 1 (map string_bytes arguments.entry.now) in
         storage_in rest ≡ Folder → has_option (codes "--concurrent") rest ≡ true → IsErr result }
@@ -218,6 +229,7 @@ fn task_served<'a>(storage: Storage, given: &ArgMatches<'a>) -> Task<'a>
             socket: path(given, "SOCKET"),
             folder: path(given, "data"),
             left_open: what_is_left(given),
+            replies: what_waits(given),
             segment: text(given, "segment"),
             idle: text(given, "idle"),
         },
@@ -257,6 +269,15 @@ fn what_is_left(given: &ArgMatches<'_>) -> LeftOpen
         return LeftOpen::Abort;
     }
     LeftOpen::Keep
+}
+
+fn what_waits(given: &ArgMatches<'_>) -> Replies
+    ensures { result ≡ replies_in (rows_of (found_of given.now)) }
+{
+    if is_given(given, "early") {
+        return Replies::Early;
+    }
+    Replies::Synced
 }
 
 fn is_given(given: &ArgMatches<'_>, option: &str) -> bool

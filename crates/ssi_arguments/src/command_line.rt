@@ -95,6 +95,7 @@ fn serve_with_folder<'a>(alloc: Global) -> Result<Command<'a>, AllocError>
     let serve = bare(alloc, "serve", help::SERVE, help::KEEP_MORE);
     let serve = with_file(alloc, serve, "SOCKET", help::SOCKET)?;
     let serve = with_flag(alloc, serve, "abort-on-close", help::KEEP_ABORT_ON_CLOSE)?;
+    let serve = with_flag(alloc, serve, "early", help::EARLY)?;
     let serve = with_segment(alloc, serve)?;
     let serve = with_idle(alloc, serve)?;
     with_data(alloc, serve, true)

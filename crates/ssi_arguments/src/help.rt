@@ -85,6 +85,9 @@ pub const ABORT_ON_CLOSE: &str = "The same, and abort the sessions of clients th
 /// The same option, where all connections are served at once anyway.
 pub const KEEP_ABORT_ON_CLOSE: &str = "Abort the sessions of clients that leave";
 
+/// The option with which few replies wait for the disk.
+pub const EARLY: &str = "Let only `committed` wait for the disk";
+
 /// The option that names a folder.
 pub const DATA: &str = "The folder of the data; in place of both files";
 

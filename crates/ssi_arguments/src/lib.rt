@@ -8,6 +8,6 @@ mod idle;
 mod segments;
 mod storage;
 
-pub use arguments::{LeftOpen, Manner, NoTask, Task, given_arguments, task_of};
+pub use arguments::{LeftOpen, Manner, NoTask, Replies, Task, given_arguments, task_of};
 pub use idle::idle_seconds;
 pub use segments::{SEGMENT, segment_len};

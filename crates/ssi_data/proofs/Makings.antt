@@ -1,25 +1,24 @@
 -- Calls of a server of one connection, and what they say of its stream.
-use Rattle.std.proofs.Common.{◌≡◌, ℕ, ◌-◌, ◌<◌, length-drop, Bool, true, false, cond, List, [], ◌∷◌, ◌++◌, length, take, Option, Some, None, refl, sym, ap, subst, ◌∙◌, append-nil, Result, Ok, Err, OnOk, IfErr, arith, ◌⊎◌, inl, inr}
+use Rattle.std.proofs.Common.{◌≡◌, ℕ, ◌<◌, Bool, true, false, cond, List, [], ◌∷◌, ◌++◌, length, take, Option, Some, None, refl, sym, ap, subst, ◌∙◌, append-nil, length-append, Result, Ok, Err, OnOk, IfErr, arith, ◌⊎◌, inl, inr}
 use Rattle.std.specs.Prelude.{◌==◌, MatchOption, MatchResult}
-use Rattle.std.specs.Option.{option_map}
 use Rattle.std.specs.Io.KnownBytes.{Consumes, Appends, Keeps}
 use Rattle.std.proofs.KnownBytes.{Consumes-nil, Appends-nil, Appends-trans}
 use Rattle.std.proofs.lemmas.Bool.{eq-eqb, both_ways}
 use Rattle.std.proofs.lemmas.Option.{same_Some, none-some}
 use Rattle.sqlite_disk.specs.declared.Disk.{Ghosts}
 use Rattle.ssi_store.specs.Meaning.Courses.{Course}
-use Rattle.ssi_hub.specs.Clauses.Buffers.{Buffers, first_unsent, with_written}
+use Rattle.ssi_hub.specs.Clauses.Buffers.{Buffers}
 use Rattle.ssi_hub.specs.Clauses.Clipping.{clipped}
 use Rattle.ssi_hub.specs.Clauses.Calls.{Call, Received, Wrote, Closed, token_of, is_open, with_call, sent_by, written_to, all_steps}
 use Rattle.ssi_hub.specs.Clauses.Serving.{StandsFor, IsServed}
 use Rattle.ssi_hub.specs.Mirror.{buffers_of, is_stopped}
 use Rattle.ssi_durable.specs.declared.server.Server.{Server}
 use Rattle.ssi_durable.specs.Clauses.Serving.{Began}
-use Rattle.ssi_durable.specs.Mirror.Servers.{Serves, hub_of, is_settled}
+use Rattle.ssi_durable.specs.Mirror.Servers.{Serves, hub_of, to_give, unsent_of}
+use Rattle.ssi_durable.proofs.Giving.{gives_front}
 use Rattle.ssi_cli.specs.declared.peer.Sent.TheVariants.{Bytes}
 use Rattle.ssi_cli.specs.Clauses.Turns.{Exchanged, HasUnsent}
 use Rattle.ssi_data.specs.Clauses.Calls.{MakesQuietly}
-use Rattle.ssi_data.specs.Mirror.{to_send, unsent_of}
 
 pub own : (t : ℕ) → (t == t) ≡ true
 own t = eq-eqb t t refl
@@ -174,82 +173,42 @@ module _ {T D : Type 0} {disk : Ghosts D} (dumps : Bool) (is_at : T → Course �
   made_if_err (Err e) why old new c d P serves opened quiet said is =
       (said, makes_one old new d P opened quiet serves is)
 
-  -- ---- writing what is unsent
+  -- ---- writing what may be given out
 
-  pub is_sent : (server : Server T D disk) (t : ℕ) (bytes : List ℕ) → (is_settled server ≡ false → bytes ≡ [])
-      → (is_settled server ≡ true → MatchOption (buffers_of (hub_of server) t) (bytes ≡ []) (λ b. bytes ≡ b.unsent))
-      → bytes ≡ to_send server t
-  is_sent server t bytes none all = by_settled (is_settled server) none all
+  -- if something may be, then something is unsent
+  has_unsent : (server : Server T D disk) (t : ℕ) → 0 < length (to_give server t)
+      → (x : Buffers) × (buffers_of (hub_of server) t ≡ Some x) × (0 < length x.unsent)
+  has_unsent server t some =
+      let (rest, parts) = gives_front server t in
+      by_open (buffers_of (hub_of server) t) refl
+      (omega (arith, some, ap (λ (l : List ℕ). length l) parts, length-append (to_give server t) rest))
     where
-      by_open : (o : Option Buffers) → MatchOption o (bytes ≡ []) (λ b. bytes ≡ b.unsent) → bytes ≡ unsent_of o
-      by_open None is = is
-      by_open (Some x) is = is
-
-      by_settled : (b : Bool) → (b ≡ false → bytes ≡ [])
-          → (b ≡ true → MatchOption (buffers_of (hub_of server) t) (bytes ≡ []) (λ x. bytes ≡ x.unsent))
-          → bytes ≡ cond b (unsent_of (buffers_of (hub_of server) t)) []
-      by_settled true none all = by_open (buffers_of (hub_of server) t) (all refl)
-      by_settled false none all = none refl
-
-  -- if something may be sent, then it is what is unsent, and all lines that count are on the disk
-  has_unsent : (server : Server T D disk) (t : ℕ) → 0 < length (to_send server t)
-      → (is_settled server ≡ true) × ((x : Buffers) × (buffers_of (hub_of server) t ≡ Some x) × (to_send server t ≡ x.unsent))
-  has_unsent server t some = by_settled (is_settled server) refl some
-    where
-      by_open : (o : Option Buffers) → 0 < length (unsent_of o) → (x : Buffers) × (o ≡ Some x) × (unsent_of o ≡ x.unsent)
-      by_open None some = absurd (omega (arith, some))
-      by_open (Some x) some = (x, refl, refl)
-
-      by_settled : (b : Bool) → is_settled server ≡ b → 0 < length (cond b (unsent_of (buffers_of (hub_of server) t)) [])
-          → (is_settled server ≡ true) × ((x : Buffers) × (buffers_of (hub_of server) t ≡ Some x)
-          × (cond b (unsent_of (buffers_of (hub_of server) t)) [] ≡ x.unsent))
-      by_settled true is some = (is, by_open (buffers_of (hub_of server) t) some)
-      by_settled false is some = absurd (omega (arith, some))
-
-  pub sends_less : (server now : Server T D disk) (t count : ℕ) → is_settled now ≡ is_settled server
-      → (is_settled server ≡ true → buffers_of (hub_of now) t ≡ option_map (with_written count) (buffers_of (hub_of server) t))
-      → length (to_send now t) ≡ length (to_send server t) - count
-  sends_less server now t count same less = by_settled (is_settled server) same less
-    where
-      by_open : (o : Option Buffers) → length (unsent_of (option_map (with_written count) o)) ≡ length (unsent_of o) - count
-      by_open None = omega arith
-      by_open (Some x) = length-drop count x.unsent
-
-      by_settled : (b : Bool) → is_settled now ≡ b
-          → (b ≡ true → buffers_of (hub_of now) t ≡ option_map (with_written count) (buffers_of (hub_of server) t))
-          → length (cond (is_settled now) (unsent_of (buffers_of (hub_of now) t)) [])
-          ≡ length (cond b (unsent_of (buffers_of (hub_of server) t)) []) - count
-      by_settled true is less =
-          ap (λ b. length (cond b (unsent_of (buffers_of (hub_of now) t)) [])) is
-          ∙ ap (λ (o : Option Buffers). length (unsent_of o)) (less refl) ∙ by_open (buffers_of (hub_of server) t)
-      by_settled false is less =
-          ap (λ b. length (cond b (unsent_of (buffers_of (hub_of now) t)) [])) is ∙ omega arith
+      by_open : (o : Option Buffers) → buffers_of (hub_of server) t ≡ o → 0 < length (unsent_of o)
+          → (x : Buffers) × (buffers_of (hub_of server) t ≡ Some x) × (0 < length x.unsent)
+      by_open None is some = absurd (omega (arith, some))
+      by_open (Some x) is some = (x, is, some)
 
   module _ {S : Type 0} (remaining contents : S → Option (List ℕ)) (t : ℕ) (start old new : S)
-      (first server now : Server T D disk) (bytes : List ℕ) (out : bytes ≡ to_send server t) (some : 0 < length bytes)
+      (first server now : Server T D disk) (bytes : List ℕ) (out : bytes ≡ to_give server t) (some : 0 < length bytes)
       (makes : MakesQuietly dumps is_at first server (λ _ made. Exchanged remaining contents t start old made [])) where
-    has : (is_settled server ≡ true) × ((x : Buffers) × (buffers_of (hub_of server) t ≡ Some x) × (to_send server t ≡ x.unsent))
+    has : (x : Buffers) × (buffers_of (hub_of server) t ≡ Some x) × (0 < length x.unsent)
     has = has_unsent server t (subst (λ (l : List ℕ). 0 < length l) out some)
 
     pub sends : (count : ℕ) → remaining new ≡ remaining old → Appends (contents old) (contents new) (take count bytes)
         → ((n : ℕ) (began : Began) (calls : List Call) → Serves dumps is_at n began server calls
-        → Serves dumps is_at n began now (cond (is_settled server)
-        (with_call (Wrote t (first_unsent count (buffers_of (hub_of server) t))) calls) calls))
+        → Serves dumps is_at n began now (with_call (Wrote t (take count (to_give server t))) calls))
         → MakesQuietly dumps is_at first now (λ _ made. Exchanged remaining contents t start new made [])
     sends count same wrote serves = λ n began calls s.
-        let (settled, (x, there, is)) = has in
+        let (x, there, unsent) = has in
         let (made, mid, quiet, one) = makes n began calls s in
-        let front : take count bytes ≡ first_unsent count (buffers_of (hub_of server) t) =
-        ap (take count) (out ∙ is) ∙ sym (ap (first_unsent count) there) in
-        let wrote_now = first_unsent count (buffers_of (hub_of server) t) in
+        let wrote_now = take count (to_give server t) in
         let opened = open_at server t x there n began (made ++ calls) mid in (
           Wrote t wrote_now ∷ made,
           subst (Serves dumps is_at n began now) (ap (λ o. cond o (Wrote t wrote_now ∷ (made ++ calls)) (made ++ calls)) opened)
-              (subst (λ o. Serves dumps is_at n began now (cond o (with_call (Wrote t wrote_now) (made ++ calls)) (made ++ calls)))
-              settled (serves n began (made ++ calls) mid)),
+              (serves n began (made ++ calls) mid),
           quiet,
           exchanged_more remaining contents t start old new wrote_now made one same
-              (subst (Appends (contents old) (contents new)) front wrote),
+              (subst (Appends (contents old) (contents new)) (ap (take count) out) wrote),
         )
 
     pub breaks : remaining new ≡ remaining old → Keeps (contents old) (contents new)
@@ -258,7 +217,7 @@ module _ {T D : Type 0} {disk : Ghosts D} (dumps : Bool) (is_at : T → Course �
         → MakesQuietly dumps is_at first now (λ calls made. (earlier : List Call) × (made ≡ Closed t ∷ earlier)
         × HasUnsent dumps t (earlier ++ calls) × Exchanged remaining contents t start new earlier [])
     breaks same kept serves = λ n began calls s.
-        let (settled, (x, there, is)) = has in
+        let (x, there, unsent) = has in
         let (made, mid, quiet, one) = makes n began calls s in
         let hub = hub_of server in
         let (left, served, waits, opened) =
@@ -270,7 +229,7 @@ module _ {T D : Type 0} {disk : Ghosts D} (dumps : Bool) (is_at : T → Course �
           (
             made,
             refl,
-            (left, x.unsent, served, subst (λ (l : List ℕ). 0 < length l) (out ∙ is) some),
+            (left, x.unsent, served, unsent),
             exchanged_kept remaining contents t start old new made one same kept,
           ),
         )

@@ -16,7 +16,7 @@ use Rattle.ssi_log.specs.Meaning.Texts.{HasNoZero}
 use Rattle.ssi_durable.specs.declared.server.Server.{Server}
 use Rattle.ssi_durable.specs.Clauses.Journals.{HasAll}
 use Rattle.ssi_durable.specs.Clauses.Recovery.{IsReplayed}
-use Rattle.ssi_durable.specs.Clauses.Serving.{Began}
+use Rattle.ssi_durable.specs.Clauses.Serving.{Began, begun_next}
 use Rattle.ssi_durable.specs.Mirror.Servers.{Serves, store_of}
 use Rattle.ssi_loads.specs.Laws.{FirstLinesArePlain, FirstLinesAreClean}
 use Rattle.ssi_loads.specs.Meaning.Loads.{first_lines}
@@ -50,7 +50,7 @@ module _ {T D : Type 0} {disk : Ghosts D} (dumps : Bool) (is_at : T → Course �
       × HasAll log (first_lines next (contents_after c)))
       → ((n number : ℕ) (began : Began) (lines : List Bytes) (calls : List Call) → Serves dumps is_at n began mid calls
       → IsReplayed is_at number lines store → HasAll log lines
-      → Serves dumps is_at number (record { lines = lines; before = calls }) new calls)
+      → Serves dumps is_at number (begun_next began lines calls) new calls)
       → (n : ℕ) (began : Began) (calls : List Call) → Serves dumps is_at n began old calls → HasMoved dumps is_at next began calls new
   moves old mid seen new store log same has none loaded begins = λ n began calls s.
       let (aborts, serves, are) = has n began calls s in

@@ -1,23 +1,14 @@
 -- What clauses see of a server, and of the sockets of its connections.
-use Rattle.std.specs.Prelude.{ℕ, Bool, if◌then◌else◌, [], Option, Some, None}
+use Rattle.std.specs.Prelude.{ℕ, Bool, Option}
 use Rattle.sqlite_disk.specs.declared.Disk.{Ghosts}
 use Rattle.std.specs.Option.{option_map}
-use Rattle.adya_keys.specs.Meaning.Keys.{Bytes}
 use Rattle.ssi_store.specs.Meaning.Courses.{Course}
-use Rattle.ssi_hub.specs.Clauses.Buffers.{Buffers}
-use Rattle.ssi_hub.specs.Mirror.{buffers_of}
 use Rattle.ssi_durable.specs.declared.server.Server.{Server}
-use Rattle.ssi_durable.specs.Mirror.Servers.{hub_of, is_settled}
 use Rattle.ssi_cli.specs.declared.users.Users.{Users}
 use Rattle.ssi_data.specs.declared.clients.Clients.{Clients}
 use Rattle.ssi_data.specs.declared.idle.Idle.{Idle}
 use Rattle.ssi_data.specs.declared.tables.Tables.{Tables}
 use Rattle.ssi_data.specs.Clauses.Rounds.{GoesOn}
-
--- the replies that are to be written to a connection
-abbrev pub unsent_of : Option Buffers → Bytes
-unsent_of None = []
-unsent_of (Some b) = b.unsent
 
 -- who has used each session last, as far as that is kept
 abbrev pub users_in : Tables → Option Users
@@ -28,10 +19,6 @@ abbrev pub seconds_of : Idle → ℕ
 seconds_of idle = idle.limit
 
 module _ {T D : Type 0} {disk : Ghosts D} where
-  -- those that may be: none before all lines that count are on the disk
-  abbrev pub to_send : Server T D disk → ℕ → Bytes
-  to_send s t = if is_settled s then unsent_of (buffers_of (hub_of s) t) else []
-
   abbrev pub server_of : Clients T D disk → Server T D disk
   server_of clients = clients.server
 

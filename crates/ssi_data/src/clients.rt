@@ -9,8 +9,8 @@ ghost use Rattle.ssi_hub.specs.Mirror.{buffers_of, is_stopped};
 ghost use Rattle.ssi_log.specs.Machinery.Standing.{end_of};
 ghost use Rattle.ssi_durable.specs.Clauses.Journals.{HasAll, is_full};
 ghost use Rattle.ssi_durable.specs.Clauses.Recovery.{IsReplayed};
-ghost use Rattle.ssi_durable.specs.Clauses.Serving.{Began};
-ghost use Rattle.ssi_durable.specs.Mirror.Servers.{Serves, hub_of, log_of, store_of, is_settled, has_failed};
+ghost use Rattle.ssi_durable.specs.Clauses.Serving.{Began, begun_next};
+ghost use Rattle.ssi_durable.specs.Mirror.Servers.{Serves, hub_of, log_of, store_of, is_settled, has_failed, to_give, unsent_of};
 ghost use Rattle.ssi_cli.specs.Clauses.Serving.{aborts};
 ghost use Rattle.ssi_cli.specs.Clauses.Turns.{called};
 ghost use Rattle.ssi_data.specs.Clauses.Aborting.{HasAbortedOpen};
@@ -139,7 +139,7 @@ impl<T: ProtocolStore + Drop, D: Disk + Drop> Clients<T, D> {
         ensures serves { (n number : ℕ) (began : Began) (lines : List Bytes) (calls : List Call)
             → Serves T.keeps T.is_at n began (server_of self.old) calls
             → IsReplayed T.is_at number lines next.store → HasAll next.log lines
-            → Serves T.keeps T.is_at number (record { lines = lines; before = calls }) (server_of self.new) calls }
+            → Serves T.keeps T.is_at number (begun_next began lines calls) (server_of self.new) calls }
         ensures users { users_of self.new ≡ users_of self.old }
         ensures due { due_of self.new ≡ due_len self.old.most next.loaded }
     {
@@ -166,7 +166,7 @@ impl<T: ProtocolStore + Drop, D: Disk + Drop> Clients<T, D> {
 
     /// Returns how long to wait for events; without a limit if nothing else is to be done.
     pub(crate) fn longest_wait(&self) -> Option<Duration> {
-        if !self.server.is_settled() {
+        if self.server.is_waiting() {
             return Some(Duration::ZERO);
         }
         if self.full.is_some() {
@@ -192,7 +192,8 @@ impl<T: ProtocolStore + Drop, D: Disk + Drop> Clients<T, D> {
     }
 
     /// Gives each connection a turn that has more to do, or of which the system has reported something. All lines that they
-    /// sent are carried out, then these are put on the disk, and then the replies are written.
+    /// sent are carried out, then these are put on the disk if a reply waits for that, and then the replies are written. Those that don't
+    /// wait are written before.
     pub(crate) fn round(
         &mut self,
         alloc: Global,
@@ -200,16 +201,51 @@ impl<T: ProtocolStore + Drop, D: Disk + Drop> Clients<T, D> {
         room: &mut [u8],
     ) -> Result<(), LogFault>
         ensures on { GoOn T.keeps T.is_at self.old self.new }
-        ensures settled { OnOk result (is_settled (server_of self.new) ≡ true) }
         ensures failed { OnErr result (has_failed (server_of self.new) ≡ true) }
     {
         self.full = None;
         self.go_on(alloc, room)?;
         self.take_all(alloc, events, room)?;
-        calls_are_deeds();
-        self.server.settle()?;
+        self.release()?;
         self.reply_all();
         Ok(())
+    }
+
+    /// Sees to it that no reply waits for the disk: if some do then all lines that count are put on it, and the replies that don't wait
+    /// are written before.
+    fn release(&mut self) -> Result<(), LogFault>
+        ensures on { GoOn T.keeps T.is_at self.old self.new }
+        ensures given { OnOk result (has_failed (server_of self.new) ≡ false → (t : ℕ)
+            → to_give (server_of self.new) t ≡ unsent_of (buffers_of (hub_of (server_of self.new)) t)) }
+        ensures failed { OnErr result (has_failed (server_of self.new) ≡ true) }
+    {
+        if !self.server.is_waiting() {
+            return Ok(());
+        }
+        self.write_early();
+        self.settle()
+    }
+
+    /// Writes the replies that don't wait for the disk, if some do and others don't.
+    fn write_early(&mut self)
+        ensures on { GoOn T.keeps T.is_at self.old self.new }
+    {
+        if self.server.release().is_early() {
+            self.write_all();
+        }
+    }
+
+    /// Waits until all lines that count are on the disk.
+    pub(crate) fn settle(&mut self) -> Result<(), LogFault>
+        ensures on { GoOn T.keeps T.is_at self.old self.new }
+        ensures settled { OnOk result (is_settled (server_of self.new) ≡ true) }
+        ensures given { OnOk result ((t : ℕ)
+            → to_give (server_of self.new) t ≡ unsent_of (buffers_of (hub_of (server_of self.new)) t)) }
+        ensures stopped { is_stopped (hub_of (server_of self.new)) ≡ is_stopped (hub_of (server_of self.old)) }
+        ensures failed { OnErr result (has_failed (server_of self.new) ≡ true) }
+    {
+        calls_are_deeds();
+        self.server.settle()
     }
 
     fn go_on(&mut self, alloc: Global, room: &mut [u8]) -> Result<(), LogFault>

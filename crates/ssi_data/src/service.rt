@@ -13,7 +13,9 @@ use ssi_line::ProtocolStore;
 
 /// Accepts connections and carries out the lines of all of them, one line at a time, in the order in which connections are
 /// ready. In a round each connection that is ready carries out up to 256 lines; then all lines that count are put on the disk
-/// by one sync; and only then the replies are written. So what a client reads rests on lines that are on the disk.
+/// by one sync; and only then the replies are written. So what a client reads rests on lines that are on the disk. With
+/// [`Release::Early`](ssi_durable::Release::Early) the replies before the first `committed` to a connection are written before that, and
+/// the sync is left out if none is there.
 ///
 /// Goes on until `stop` is carried out, the log or the socket fails, the file of the log can't grow, or the log is so long that
 /// the next segment is to be begun. After `Full` call it again: meanwhile nothing is lost, and no line is carried out but
@@ -38,6 +40,9 @@ pub fn serve<T: ProtocolStore + Drop, D: Disk + Drop>(
             return Halt::Failed(fault);
         }
         if clients.is_stopped() {
+            if let Err(fault) = clients.settle() {
+                return Halt::Failed(fault);
+            }
             clients.write_all();
             return Halt::Stopped;
         }

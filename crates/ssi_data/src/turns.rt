@@ -1,4 +1,5 @@
-//! The turn of one connection: what comes is carried out before all lines are put on the disk, and the replies go out after.
+//! The turn of one connection: what comes is carried out before all lines are put on the disk, and the replies go out after, but for
+//! those that don't wait for it.
 
 ghost use Rattle.std.specs.Prelude.{◌≡◌, ◌≢◌, ◌<◌, ◌⊎◌, ℕ, List, [], ◌∷◌, ◌++◌, length, true, false, Some, None, is_some, OnOk, IfErr, IsErr, MatchResult};
 ghost use Rattle.std.specs.Io.KnownBytes.{IsAtEnd};
@@ -7,14 +8,14 @@ ghost use Rattle.ssi_hub.specs.Clauses.Calls.{Call, Received, Closed, with_call,
 ghost use Rattle.ssi_hub.specs.Mirror.{buffers_of, is_stopped};
 ghost use Rattle.ssi_durable.specs.Clauses.Journals.{is_full};
 ghost use Rattle.ssi_durable.specs.Clauses.Serving.{Began};
-ghost use Rattle.ssi_durable.specs.Mirror.Servers.{Serves, hub_of, is_settled, has_failed};
+ghost use Rattle.ssi_durable.specs.Mirror.Servers.{Serves, hub_of, is_settled, has_failed, to_give};
 ghost use Rattle.ssi_cli.specs.Clauses.Peers.{HasRead};
 ghost use Rattle.ssi_cli.specs.Clauses.Turns.{Exchanged, MayRun, WantsMore, HasUnsent, NoneUnsent, HasAllSent, IsFinished, IsIdle};
 ghost use Rattle.ssi_cli.specs.Mirror.{stream_of, input_of, may_read, is_due};
 ghost use Rattle.ssi_data.specs.Clauses.Calls.{Makes, MakesQuietly};
 ghost use Rattle.ssi_data.specs.Clauses.Turns.{IsDropped, HasCarriedOut, HasReplied};
 ghost use Rattle.ssi_data.specs.Clauses.Timing.{is_noting};
-ghost use Rattle.ssi_data.specs.Mirror.{to_send, users_in};
+ghost use Rattle.ssi_data.specs.Mirror.{users_in};
 
 use crate::tables::Tables;
 use sqlite_disk::Disk;
@@ -172,8 +173,7 @@ fn carry_out_noted<T: ProtocolStore + Drop, D: Disk + Drop>(
     }
 }
 
-/// Writes the replies to the client, as far as it takes them, once all lines that count are on the disk. The connection is
-/// closed if it has ended and there is nothing more to do for it: that is `Closing::Ended`. `Closing::Broken` if the client
+/// Writes the replies to the client that don't wait for the disk, as far as it takes them. The connection is closed if it has ended and there is nothing more to do for it: that is `Closing::Ended`. `Closing::Broken` if the client
 /// takes no more: then it is closed, too. If it is open, it is due again while there is more to do for it at once.
 pub fn reply<S: Stream, T: ProtocolStore + Drop, D: Disk + Drop>(
     token: u64,
@@ -186,7 +186,7 @@ pub fn reply<S: Stream, T: ProtocolStore + Drop, D: Disk + Drop>(
     // It ends at the end of its stream, or after a read that failed.
     ensures ends { IfErr result (λ why. why ≡ Closing.Ended → input_of peer.new ≢ Input.Open) }
     ensures broken { S.is_steady (stream_of peer.old) ≡ true → IfErr result (λ why. why ≢ Closing.Broken) }
-    ensures all { OnOk result (S.is_steady (stream_of peer.old) ≡ true → to_send server.new token ≡ []) }
+    ensures all { OnOk result (S.is_steady (stream_of peer.old) ≡ true → to_give server.new token ≡ []) }
     ensures stopped { is_stopped (hub_of server.new) ≡ is_stopped (hub_of server.old) }
     ensures settled { is_settled server.new ≡ is_settled server.old }
     ensures input { input_of peer.new ≡ input_of peer.old }
@@ -229,7 +229,7 @@ fn end_if_done<S: Stream, T: ProtocolStore + Drop, D: Disk + Drop>(
     Err(Closing::Ended)
 }
 
-/// Writes to the client until all is written or there is no room. `Closing::Broken` if the client takes no more: then the
+/// Writes to the client until all is written that doesn't wait for the disk, or there is no room. `Closing::Broken` if the client takes no more: then the
 /// connection is closed.
 pub fn send<S: Stream, T: ProtocolStore + Drop, D: Disk + Drop>(
     token: u64,
@@ -242,7 +242,7 @@ pub fn send<S: Stream, T: ProtocolStore + Drop, D: Disk + Drop>(
         (λ calls made. (earlier : List Call) × (made ≡ Closed token ∷ earlier) × HasUnsent T.keeps token (earlier ++ calls)
         × Exchanged S.remaining S.contents token (stream_of peer.old) (stream_of peer.new) earlier [])) }
     ensures steady { IsErr result → S.is_steady (stream_of peer.old) ≡ true → ⊥ }
-    ensures all { OnOk result (S.is_steady (stream_of peer.old) ≡ true → to_send server.new token ≡ []) }
+    ensures all { OnOk result (S.is_steady (stream_of peer.old) ≡ true → to_give server.new token ≡ []) }
     ensures stopped { is_stopped (hub_of server.new) ≡ is_stopped (hub_of server.old) }
     ensures settled { is_settled server.new ≡ is_settled server.old }
     ensures input { input_of peer.new ≡ input_of peer.old }

@@ -56,5 +56,8 @@ module _ {S D : Type 0} {disk : Ghosts D} where
           at = still was.gone.end was.gone.at;
         };
         told = was.told;
+        mode = was.mode;
+        sure = was.sure;
+        rests = was.rests;
         keeps = was.keeps;
       })

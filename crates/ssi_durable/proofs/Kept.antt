@@ -23,7 +23,7 @@ more_explains lines rest s is = record {
   follows = is.follows;
 }
 
-all_more : (lines rest : List Bytes) (steps : List Step) → AllByRecursion (IsExplained lines) steps
+pub all_more : (lines rest : List Bytes) (steps : List Step) → AllByRecursion (IsExplained lines) steps
     → AllByRecursion (IsExplained (lines ++ rest)) steps
 all_more lines rest [] all = tt
 all_more lines rest (s ∷ steps) all = (more_explains lines rest s all.0, all_more lines rest steps all.1)
@@ -83,7 +83,7 @@ explain before course [] (s ∷ steps) end was led = absurd led
 explain before course (line ∷ lines) [] end was led = absurd led
 
 -- the calls of a life that started with these lines
-explained : (lines : List Bytes) (start : Course) (calls : List Call) (end : Course) → Replays (New 1) lines start
+pub explained : (lines : List Bytes) (start : Course) (calls : List Call) (end : Course) → Replays (New 1) lines start
     → HaveLed start calls end → AreExplained lines (logged calls) (all_steps calls) end
 explained lines start [] end was led = record {
   replayed = subst (λ (l : List Bytes). Replays (New 1) l end) (sym (append-nil lines))

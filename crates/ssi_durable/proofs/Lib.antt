@@ -8,6 +8,10 @@ pub mod Resumes
 pub mod Recovering
 pub mod Journaling
 pub mod Stepping
+pub mod Free
+pub mod Holding
 pub mod Serving
+pub mod Giving
 pub mod Kept
+pub mod EarlyKept
 pub mod Counting

@@ -1,3 +1,4 @@
--- What clauses see of a journal and of a server.
+-- What clauses see of a journal, of the replies that wait, and of a server.
 pub mod Journals
 pub mod Servers
+pub mod Holds

@@ -159,6 +159,7 @@ impl<D: Disk + Drop> Journal<D> {
     pub(crate) fn settle(&mut self) -> Result<(), LogFault>
         ensures keeps { (sure all : List Bytes) → Keeps self.old sure all → Keeps self.new sure all }
         ensures settled { OnOk result (is_settled self.new ≡ true) }
+        ensures going { OnOk result (has_failed self.new ≡ false) }
         ensures failed { OnErr result (has_failed self.new ≡ true) }
     {
         if self.has_failed {
@@ -176,6 +177,7 @@ impl<D: Disk + Drop> Journal<D> {
         requires going { has_failed self.old ≡ false }
         ensures keeps { (sure all : List Bytes) → Keeps self.old sure all → Keeps self.new sure all }
         ensures settled { OnOk result (is_settled self.new ≡ true) }
+        ensures going { OnOk result (has_failed self.new ≡ false) }
         ensures failed { OnErr result (has_failed self.new ≡ true) }
     {
         open_logs_keep_their_text(&self.log);
@@ -193,6 +195,13 @@ impl<D: Disk + Drop> Journal<D> {
         ensures { is_settled self.now ≡ true → (sure all : List Bytes) → Keeps self.now sure all → Keeps self.now all all }
     {
         open_logs_keep_their_text(&self.log);
+    }
+
+    /// Returns whether a call of the log has failed.
+    pub(crate) fn has_failed(&self) -> bool
+        ensures { result ≡ has_failed self.now }
+    {
+        self.has_failed
     }
 
     /// Returns whether all lines are on the disk.

@@ -4,11 +4,13 @@
 
 mod buffer;
 mod fault;
+mod holds;
 mod journal;
 pub mod laws;
 mod lines;
 mod loading;
 mod recovery;
+mod release;
 mod replaying;
 mod server;
 
@@ -16,5 +18,6 @@ pub use fault::{RecoveryFault, ReplayFault};
 pub use lines::first_line;
 pub use loading::load;
 pub use recovery::{Recovered, recover};
+pub use release::Release;
 pub use replaying::{Replayed, replay};
 pub use server::Server;

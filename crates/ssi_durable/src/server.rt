@@ -1,14 +1,14 @@
 //! A store that many connections use, with a log of the lines that it has carried out.
 
-ghost use Rattle.std.specs.Prelude.{◌≡◌, ℕ, List, [], ◌∷◌, ◌++◌, None, Some, true, false, IfOk, OnOk, OnErr, IfErr, IfSome, IfNone, MatchResult, MatchOption, if◌then◌else◌, is_some, not, ◌&&◌, nat_le, nat_lt, length, map};
-ghost use Rattle.std.specs.Option.{option_map};
+ghost use Rattle.std.specs.Prelude.{◌≡◌, ℕ, List, [], ◌∷◌, ◌++◌, None, Some, true, false, IfOk, OnOk, OnErr, IfErr, IfSome, IfNone, MatchResult, MatchOption, if◌then◌else◌, is_some, not, ◌&&◌, nat_eq, nat_le, nat_lt, length, map, take, drop, codes, option_map};
+ghost use Rattle.std.specs.List.{starts_with};
 ghost use Rattle.adya_keys.specs.Meaning.Keys.{Bytes};
 ghost use Rattle.adya_line.specs.Meaning.Lines.{IsPlain};
 ghost use Rattle.adya_values.specs.Mirror.Events.{final_of};
 ghost use Rattle.ssi_store.specs.Meaning.Contents.{contents_after};
 ghost use Rattle.ssi_store.specs.Meaning.Courses.{Course, txn_in};
 ghost use Rattle.ssi_hub.specs.Clauses.Calls.{Call, Opened, Received, Wrote, Closed, with_call};
-ghost use Rattle.ssi_hub.specs.Clauses.Buffers.{Buffers, first_unsent, with_received, with_written};
+ghost use Rattle.ssi_hub.specs.Clauses.Buffers.{Buffers, with_received};
 ghost use Rattle.ssi_hub.specs.Clauses.Clipping.{has_line};
 ghost use Rattle.ssi_hub.specs.Clauses.Stepping.{may_step};
 ghost use Rattle.ssi_hub.specs.Mirror.{buffers_of, next_token, is_stopped, Changed, IsSame};
@@ -18,12 +18,16 @@ ghost use Rattle.ssi_durable.specs.Meaning.Lines.{whole_lines};
 ghost use Rattle.ssi_durable.specs.Meaning.Logs.{logged};
 ghost use Rattle.ssi_durable.specs.Clauses.Journals.{HasAll, is_full};
 ghost use Rattle.ssi_durable.specs.Clauses.Recovery.{IsReplayed};
-ghost use Rattle.ssi_durable.specs.Clauses.Serving.{Began, from_start};
+ghost use Rattle.ssi_durable.specs.Clauses.Holding.{is_early};
+ghost use Rattle.ssi_durable.specs.Clauses.Serving.{Began, begun_next, from_start};
+ghost use Rattle.ssi_durable.specs.Mirror.Holds.{HasHeld, all_wait};
 ghost use Rattle.ssi_durable.specs.Mirror.Journals.{HasRoom};
 ghost use Rattle.ssi_durable.specs.Machinery.Noting.{noted};
 ghost use Rattle.ssi_durable.specs.Clauses.Counts.{HasVersions, commits_with, is_counted};
 
+use crate::Release;
 use crate::buffer::Noted;
+use crate::holds::Holds;
 use crate::journal::{Journal, is_full};
 use adya_values::FinalPair;
 use sqlite_disk::Disk;
@@ -35,24 +39,32 @@ use ssi_store::{Command, Reply, Session};
 use std::alloc::{AllocError, Global};
 
 /// Connections that use one store at once, and the log of the lines that it has carried out. A reply is given out only once
-/// all lines before it that count are on the disk.
+/// all lines before it that count are on the disk; with [`Release::Early`] this is so of `committed` alone.
 #[derive(Drop)]
 pub struct Server<S: Drop, D: Disk> {
     hub: Hub,
     store: S,
     journal: Journal<D>,
     noted: Noted,
+    release: Release,
+    // which replies wait, if not all do
+    holds: Holds,
     // how many lines that count were those of a `commit`, since the server was made
     commits: u64,
 }
 
 impl<S: ProtocolStore + Drop, D: Disk + Drop> Server<S, D> {
-    ghost use Rattle.ssi_durable.specs.Mirror.Servers.{Serves, HasStepped, hub_of, store_of, log_of, is_settled, has_failed, commits_of, HasCounted};
+    ghost use Rattle.ssi_durable.specs.Mirror.Servers.{Serves, HasStepped, hub_of, store_of, log_of, is_settled, has_failed, gives_early, holds_of, to_give, unsent_of, commits_of, HasCounted};
 
     /// A server of a store that stands for the lines of its log, and that has no connection yet. `AllocError` if memory runs out.
-    pub fn new(alloc: Global, store: S, log: Log<D>) -> Result<Server<S, D>, AllocError>
+    pub fn new(
+        alloc: Global,
+        store: S,
+        log: Log<D>,
+        release: Release,
+    ) -> Result<Server<S, D>, AllocError>
         ensures serves { (n : ℕ) (lines : List Bytes) → IsReplayed S.is_at n lines store
-            → HasAll log lines → IfOk result (λ server. Serves S.keeps S.is_at n (from_start lines) server []) }
+            → HasAll log lines → IfOk result (λ server. Serves S.keeps S.is_at n (from_start (is_early release) lines) server []) }
         ensures log { IfOk result (λ server. log_of server ≡ log) }
         ensures settled { IfOk result (λ server. is_settled server ≡ true) }
         ensures commits { IfOk result (λ server. commits_of server ≡ 0) }
@@ -62,6 +74,8 @@ impl<S: ProtocolStore + Drop, D: Disk + Drop> Server<S, D> {
             store,
             journal: Journal::new(alloc, log)?,
             noted: Noted::new(alloc)?,
+            release,
+            holds: Holds::new(alloc),
             commits: 0,
         })
     }
@@ -153,6 +167,7 @@ impl<S: ProtocolStore + Drop, D: Disk + Drop> Server<S, D> {
         ensures when { is_some result ≡ may_step (is_stopped (hub_of self.old)) (buffers_of (hub_of self.old) token) }
     {
         note(&self.hub, token, &mut self.noted);
+        let before = self.hub.to_write(token).len();
         let Some(carried) = self.hub.step(alloc, token, &mut self.store) else {
             return None;
         };
@@ -162,6 +177,7 @@ impl<S: ProtocolStore + Drop, D: Disk + Drop> Server<S, D> {
         }
         self.commits = commits_with(self.noted.bytes(), self.commits);
         self.journal.add(self.noted.bytes());
+        hold(self.release, &self.hub, token, before, &mut self.holds);
         Some(carried)
     }
 
@@ -172,10 +188,14 @@ impl<S: ProtocolStore + Drop, D: Disk + Drop> Server<S, D> {
             → Serves S.keeps S.is_at n began self.new calls }
         ensures settled { OnOk result (is_settled self.new ≡ true) }
         ensures failed { OnErr result (has_failed self.new ≡ true) }
+        ensures given { OnOk result ((t : ℕ) → to_give self.new t ≡ unsent_of (buffers_of (hub_of self.new) t)) }
         ensures hub { hub_of self.new ≡ hub_of self.old }
         ensures commits { commits_of self.new ≡ commits_of self.old }
     {
-        self.journal.settle()
+        self.journal.settle()?;
+        self.journal.settled_lines_are_sure();
+        self.holds.clear();
+        Ok(())
     }
 
     /// Returns a session that has a transaction, as [`AnyStore::open_session`](ssi_store::AnyStore::open_session) does.
@@ -233,7 +253,7 @@ impl<S: ProtocolStore + Drop, D: Disk + Drop> Server<S, D> {
         requires { is_settled self.old ≡ true }
         ensures serves { (n next : ℕ) (began : Began) (lines : List Bytes) (calls : List Call)
             → Serves S.keeps S.is_at n began self.old calls → IsReplayed S.is_at next lines store
-            → HasAll log lines → Serves S.keeps S.is_at next (record { lines = lines; before = calls }) self.new calls }
+            → HasAll log lines → Serves S.keeps S.is_at next (begun_next began lines calls) self.new calls }
         // A crash leaves all lines of the segment that was left.
         ensures left { (n : ℕ) (began : Began) (calls : List Call) (file : List ℕ)
             → Serves S.keeps S.is_at n began self.old calls → D.may_leave (disk_of (log_of self.old)) file
@@ -248,37 +268,36 @@ impl<S: ProtocolStore + Drop, D: Disk + Drop> Server<S, D> {
         self.journal.settled_lines_are_sure();
         self.store = store;
         self.journal.go_on_with(log);
+        self.holds.clear();
     }
 
-    /// Returns the bytes that are to be written to the connection: the replies that are not written. None before all lines that
-    /// count are on the disk.
+    /// Returns the bytes that are to be written to the connection: the replies that are not written and don't wait. None once the
+    /// log has failed.
     pub fn to_write(&self, token: u64) -> &[u8]
-        ensures unsettled { is_settled self.now ≡ false → result.now ≡ [] }
-        ensures settled { is_settled self.now ≡ true
-            → MatchOption (buffers_of (hub_of self.now) token) (result.now ≡ []) (λ b. result.now ≡ b.unsent) }
+        ensures { result.now ≡ to_give self.now token }
     {
-        if !self.journal.is_settled() {
-            return &[];
+        match self.release {
+            Release::Early if self.journal.has_failed() => &[],
+            Release::Early => self.holds.front(token, self.hub.to_write(token)),
+            Release::Synced if self.journal.is_settled() => self.hub.to_write(token),
+            Release::Synced => &[],
         }
-        self.hub.to_write(token)
     }
 
     /// The first `count` bytes of [`to_write`](Server::to_write) were written to the connection, or all if there are no more.
     pub fn written(&mut self, token: u64, count: usize)
         ensures serves { (n : ℕ) (began : Began) (calls : List Call) → Serves S.keeps S.is_at n began self.old calls
-            → Serves S.keeps S.is_at n began self.new (if is_settled self.old
-            then with_call (Wrote token (first_unsent count (buffers_of (hub_of self.old) token))) calls else calls) }
-        ensures written { is_settled self.old ≡ true → Changed (hub_of self.old) (hub_of self.new) token
-            (option_map (with_written count) (buffers_of (hub_of self.old) token)) }
+            → Serves S.keeps S.is_at n began self.new (with_call (Wrote token (take count (to_give self.old token))) calls) }
+        ensures given { to_give self.new token ≡ drop count (to_give self.old token) }
         ensures stopped { is_stopped (hub_of self.new) ≡ is_stopped (hub_of self.old) }
         ensures settled { is_settled self.new ≡ is_settled self.old }
         ensures failed { has_failed self.new ≡ has_failed self.old }
         ensures commits { commits_of self.new ≡ commits_of self.old }
     {
-        if self.journal.is_settled() {
-            self.journal.settled_lines_are_sure();
-            self.hub.written(token, count);
-        }
+        self.journal.settled_lines_are_sure();
+        let count = count.min(self.to_write(token).len());
+        self.hub.written(token, count);
+        self.holds.written(token, count);
     }
 
     /// The connection is gone, as [`Hub::closed`] has it.
@@ -339,7 +358,25 @@ impl<S: ProtocolStore + Drop, D: Disk + Drop> Server<S, D> {
         self.hub.is_stopped()
     }
 
-    /// Returns whether all lines that count are on the disk, so that replies may be given out.
+    /// Returns which replies wait for the disk.
+    pub fn release(&self) -> Release
+        ensures { is_early result ≡ gives_early self.now }
+    {
+        self.release
+    }
+
+    /// Returns whether a reply may wait until all lines that count are on the disk.
+    pub fn is_waiting(&self) -> bool
+        ensures { result ≡ false → has_failed self.now ≡ false
+            → (t : ℕ) → to_give self.now t ≡ unsent_of (buffers_of (hub_of self.now) t) }
+    {
+        match self.release {
+            Release::Early => !self.holds.is_empty(),
+            Release::Synced => !self.journal.is_settled(),
+        }
+    }
+
+    /// Returns whether all lines that count are on the disk.
     pub fn is_settled(&self) -> bool
         ensures { result ≡ is_settled self.now }
     {
@@ -355,6 +392,32 @@ fn note(hub: &Hub, token: u64, to: &mut Noted)
     if let Some(line) = hub.next_line(token) {
         to.note(line);
     }
+}
+
+/// Notes that the last reply to the connection waits, if only `committed` does and it is that. If it is lost then it isn't known, and
+/// all wait.
+fn hold(release: Release, hub: &Hub, token: u64, before: usize, holds: &mut Holds)
+    ensures lost { is_early release ≡ true → buffers_of hub.now token ≡ None → all_wait holds.new ≡ true }
+    ensures held { is_early release ≡ true → (b : Buffers) → buffers_of hub.now token ≡ Some b
+        → HasHeld token before (starts_with nat_eq (drop before b.unsent) (codes "committed")) holds.old holds.new }
+{
+    if !release.is_early() {
+        return;
+    }
+    if !hub.is_open(token) {
+        holds.hold_all();
+        return;
+    }
+    if is_committed(hub.to_write(token), before) {
+        holds.hold(token, before);
+    }
+}
+
+/// Returns whether the reply is `committed` that begins after so many bytes.
+fn is_committed(unsent: &[u8], before: usize) -> bool
+    ensures { result ≡ starts_with nat_eq (drop before unsent.now) (codes "committed") }
+{
+    unsent[unsent.len().min(before)..].starts_with(b"committed")
 }
 
 /// Returns how many commits there were, with this line, which counts.

@@ -5,6 +5,7 @@ use crate::seen::Seen;
 use crate::serving::Ending;
 use crate::texts::{count_lines, whole_lines};
 use crate::wrong::Wrong;
+use ssi_durable::Release;
 use std::alloc::{AllocError, Global};
 
 /// How many connections a server has, at most.
@@ -30,6 +31,7 @@ struct Piece {
 /// What has become of a server since it has started with the lines of a log.
 #[derive(Drop)]
 pub struct Life {
+    pub release: Release,
     start: Vec<u8>,
     /// How many bytes followed these lines.
     torn: usize,
@@ -39,6 +41,8 @@ pub struct Life {
     sure: usize,
     steps: Vec<Step>,
     given: Vec<Piece>,
+    /// Something was given out before all lines were on the disk.
+    pub was_early: bool,
     /// The file couldn't grow.
     pub was_full: bool,
     /// A call of the file has failed otherwise.
@@ -63,16 +67,18 @@ impl Step {
 }
 
 impl Life {
-    /// A life that starts with the whole lines of this text.
-    pub fn new(alloc: Global, text: &[u8]) -> Result<Life, AllocError> {
+    /// A life that starts with the whole lines of this text, and gives out replies so.
+    pub fn new(alloc: Global, text: &[u8], release: Release) -> Result<Life, AllocError> {
         let start = whole_lines(text);
         Ok(Life {
+            release,
             start: Vec::from_slice(alloc, start)?,
             torn: text.len() - start.len(),
             all: Vec::from_slice(alloc, start)?,
             sure: start.len(),
             steps: Vec::new(alloc),
             given: Vec::new(alloc),
+            was_early: false,
             was_full: false,
             has_failed: false,
         })
@@ -128,19 +134,64 @@ impl Life {
     }
 
     /// Looks whether a crash may leave this text. Its whole lines have to be a front of those at the start and those that
-    /// count, with all that were carried out before something was given out; and an empty store that carries them out replies what
-    /// was given out.
+    /// count, with all on which something rests that was given out.
     pub fn may_leave(&self, alloc: Global, store: &mut Plain, text: &[u8]) -> Result<(), Wrong> {
         let left = whole_lines(text);
         if !self.all.starts_with(left) {
             return Err(Wrong::NoFront);
         }
-        if left.len() < self.sure {
+        match self.release {
+            Release::Synced => self.may_leave_synced(alloc, store, left.len()),
+            Release::Early => self.may_leave_early(alloc, store, left.len()),
+        }
+    }
+
+    /// What is left, of so many bytes, has to have all lines that were carried out before something was given out. An empty store
+    /// that carries it out replies what was given out.
+    fn may_leave_synced(&self, alloc: Global, store: &mut Plain, left: usize) -> Result<(), Wrong> {
+        if left < self.sure {
             return Err(Wrong::Lost);
         }
         let mut replies = Vec::new(alloc);
-        self.reply(alloc, store, left.len(), &mut replies)?;
+        self.reply(alloc, store, left, &mut replies)?;
         self.has_given_of(alloc, &replies)
+    }
+
+    /// What is left, of so many bytes, has to have all lines up to each `commit` to which a part of `committed` was given out. An
+    /// empty store that carries out all lines of this life, those that are lost among them, replies what was given out.
+    fn may_leave_early(&self, alloc: Global, store: &mut Plain, left: usize) -> Result<(), Wrong> {
+        let mut replies = Vec::new(alloc);
+        self.reply(alloc, store, usize::MAX, &mut replies)?;
+        self.has_given_of(alloc, &replies)?;
+        for token in 0..CONNECTIONS {
+            let given = bytes_for(alloc, &self.given, token)?.len();
+            self.keeps_commits(token, given, &replies, left)?;
+        }
+        Ok(())
+    }
+
+    /// Looks whether the commits are left of which the connection was given a part of the reply. It was given so many bytes.
+    fn keeps_commits(
+        &self,
+        token: u64,
+        given: usize,
+        replies: &[Piece],
+        left: usize,
+    ) -> Result<(), Wrong> {
+        let mut begin = 0usize;
+        for (step, reply) in self.steps.iter().zip(replies) {
+            if step.token != token {
+                continue;
+            }
+            if begin >= given {
+                return Ok(());
+            }
+            if reply.bytes.as_slice() == b"committed\n".as_slice() && step.end > left {
+                return Err(Wrong::Lost);
+            }
+            begin = begin.saturating_add(reply.bytes.len());
+        }
+        Ok(())
     }
 
     /// Adds what a store replies to the lines that follow only such as are left, which have so many bytes.
@@ -177,6 +228,7 @@ impl Life {
         let left = whole_lines(text).len();
         Seen {
             given: !self.given.is_empty(),
+            early: self.was_early,
             kept: left > self.sure,
             lost: left < self.all.len(),
             torn: left < text.len(),

@@ -4,6 +4,7 @@
 #![tactic(auto)]
 
 mod chance;
+mod early;
 mod life;
 mod many;
 mod plain;
@@ -22,11 +23,12 @@ use std::io;
 use wrong::Wrong;
 
 /// How many seeds there are of the runs with each trouble, and of those with many lines.
-const SEEDS: u64 = 10;
+const SEEDS: u64 = 20;
 
 fn main(rt: HostRuntime) -> io::Result<()> {
     let alloc = rt.alloc();
     say(&rt, "replies after a settle", worked::replies(alloc))?;
+    say(&rt, "early replies", early::early_replies(alloc))?;
     say(&rt, "lines that count", worked::lines_that_count(alloc))?;
     say(&rt, "full disk", worked::full_disk(alloc))?;
     say(&rt, "replies after a recovery", recovering::goes_on(alloc))?;
@@ -51,6 +53,7 @@ fn main(rt: HostRuntime) -> io::Result<()> {
         "many lines, and runs that stop, that fail and whose disk is full: {SEEDS} seeds each"
     )?;
     say_seen(&rt, "replies given out", seen.given)?;
+    say_seen(&rt, "replies given out early", seen.early)?;
     say_seen(&rt, "lines kept without a reply", seen.kept)?;
     say_seen(&rt, "lines lost", seen.lost)?;
     say_seen(&rt, "lines torn", seen.torn)?;

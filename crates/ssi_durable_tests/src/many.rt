@@ -8,6 +8,7 @@ use crate::texts::{HEAD, LEAST_ROOM, file};
 use crate::wrong::Wrong;
 use disk_testing::Mixing;
 use sqlite_disk::Disk;
+use ssi_durable::Release;
 use std::alloc::Global;
 
 /// How many lines follow the first one. They have more than 65,536 bytes.
@@ -20,7 +21,7 @@ const LINE: &[u8; 103] =
 /// the server goes on.
 pub fn many_lines(alloc: Global, seed: u64, seen: &mut Seen) -> Result<(), Wrong> {
     let mut disk = file(alloc, seed, HEAD, LEAST_ROOM)?;
-    let mut life = Life::new(alloc, HEAD)?;
+    let mut life = Life::new(alloc, HEAD, Release::Synced)?;
     live_twice(alloc, &mut disk, &mut life, seen)
 }
 
@@ -32,7 +33,7 @@ fn live_twice(
 ) -> Result<(), Wrong> {
     live_well(alloc, disk, life, &mut ManyLines)?;
     end(alloc, disk, life, seen)?;
-    live_over(alloc, disk, &mut ManyLines)
+    live_over(alloc, disk, Release::Synced, &mut ManyLines)
 }
 
 #[derive(Clone, Copy)]

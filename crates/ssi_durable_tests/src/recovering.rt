@@ -7,7 +7,7 @@ use crate::worked::{OneClient, is};
 use crate::wrong::Wrong;
 use disk_testing::Mixing;
 use sqlite_disk::Crash;
-use ssi_durable::{Recovered, ReplayFault};
+use ssi_durable::{Recovered, Release, ReplayFault};
 use std::alloc::{AllocError, Global};
 
 const LOG: &[u8] = b"# ssi log 1 segment 1
@@ -37,7 +37,12 @@ const TALK: OneClient<'static> = OneClient {
 /// A store that was recovered replies as one that has carried out all lines.
 pub fn goes_on(alloc: Global) -> Result<(), Wrong> {
     are_carried_out(alloc)?;
-    live_over(alloc, &mut file(alloc, 0, LOG, 1000)?, &mut TALK)
+    live_over(
+        alloc,
+        &mut file(alloc, 0, LOG, 1000)?,
+        Release::Synced,
+        &mut TALK,
+    )
 }
 
 fn are_carried_out(alloc: Global) -> Result<(), Wrong> {
@@ -67,7 +72,7 @@ fn cuts(alloc: Global, disk: &mut Mixing) -> Result<(), Wrong> {
     is(text_of(disk), LOG)?;
     disk.crash();
     is(text_of(disk), LOG)?;
-    live_over(alloc, disk, &mut TALK)
+    live_over(alloc, disk, Release::Synced, &mut TALK)
 }
 
 fn joined(alloc: Global, text: &[u8], more: &[u8]) -> Result<Vec<u8>, AllocError> {
@@ -89,7 +94,7 @@ fn stays(alloc: Global, disk: &mut Mixing) -> Result<(), Wrong> {
     }
     disk.crash();
     is(whole_lines(text_of(disk)), LOG)?;
-    live_over(alloc, disk, &mut TALK)
+    live_over(alloc, disk, Release::Synced, &mut TALK)
 }
 
 /// Without its header a file isn't the log of this segment, and without a zero it has no text.

@@ -11,6 +11,7 @@ use crate::texts::{HEAD, LEAST_ROOM, file, text_of};
 use crate::wrong::Wrong;
 use disk_testing::{Coins, Lent, Mixing};
 use sqlite_disk::{Crash, Fuse};
+use ssi_durable::Release;
 use std::alloc::Global;
 
 /// What happens to the disk in a life.
@@ -73,7 +74,7 @@ impl Run {
         coins: &mut Coins,
         seen: &mut Seen,
     ) -> Result<(), Wrong> {
-        let mut life = Life::new(alloc, text_of(disk))?;
+        let mut life = Life::new(alloc, text_of(disk), self.release())?;
         self.live_until(alloc, disk, coins, &mut life)?;
         end(alloc, disk, &life, seen)
     }
@@ -110,15 +111,24 @@ impl Run {
         }
     }
 
-    /// How much room a log has at first, beside the least. On a full disk, and with every eighth seed, it is little: soon the file
+    /// How much room a log has at first, beside the least. On a full disk, and with every fourth seed, it is little: soon the file
     /// has to grow.
     fn more(self) -> usize
         ensures { result ≤ 20000 }
     {
-        if self.trouble == Trouble::Full || self.seed % 8 == 3 {
+        if self.trouble == Trouble::Full || self.seed % 8 == 3 || self.seed % 8 == 6 {
             40
         } else {
             20_000
+        }
+    }
+
+    /// With every second seed only `committed` waits for the disk.
+    fn release(self) -> Release {
+        if self.seed % 2 == 0 {
+            Release::Synced
+        } else {
+            Release::Early
         }
     }
 

@@ -5,6 +5,8 @@
 pub struct Seen {
     /// Replies were given out.
     pub given: bool,
+    /// Replies were given out before all lines were on the disk.
+    pub early: bool,
     /// A crash has left a line to which the reply wasn't given out.
     pub kept: bool,
     /// A crash has taken a line.
@@ -21,6 +23,7 @@ impl Seen {
     /// Nothing so far.
     pub const NOTHING: Seen = Seen {
         given: false,
+        early: false,
         kept: false,
         lost: false,
         torn: false,
@@ -31,6 +34,7 @@ impl Seen {
     /// Adds what others have shown.
     pub fn add(&mut self, other: Seen) {
         self.given |= other.given;
+        self.early |= other.early;
         self.kept |= other.kept;
         self.lost |= other.lost;
         self.torn |= other.torn;

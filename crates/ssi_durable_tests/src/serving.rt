@@ -5,7 +5,7 @@ use crate::texts::text_of;
 use crate::wrong::Wrong;
 use disk_testing::{Lent, Mixing};
 use sqlite_disk::Disk;
-use ssi_durable::{Recovered, RecoveryFault, ReplayFault, Server, recover};
+use ssi_durable::{Recovered, RecoveryFault, Release, ReplayFault, Server, recover};
 use ssi_log::{Log, LogFault};
 use ssi_reads::IndexMarks;
 use ssi_store::LiveStore;
@@ -87,7 +87,7 @@ pub fn live<D: Disk + Drop, P: Plan>(
     if !matches!(begins, Ok(true)) {
         return begins.and(Ok(()));
     }
-    let mut server = Server::new(alloc, store, log)?;
+    let mut server = Server::new(alloc, store, log, life.release)?;
     plan.follow(alloc, &mut server, life)
 }
 
@@ -107,8 +107,13 @@ pub fn live_well<P: Plan>(
 }
 
 /// The same, with the lines that this file has.
-pub fn live_over<P: Plan>(alloc: Global, disk: &mut Mixing, plan: &mut P) -> Result<(), Wrong> {
-    let mut life = Life::new(alloc, text_of(disk))?;
+pub fn live_over<P: Plan>(
+    alloc: Global,
+    disk: &mut Mixing,
+    release: Release,
+    plan: &mut P,
+) -> Result<(), Wrong> {
+    let mut life = Life::new(alloc, text_of(disk), release)?;
     live_well(alloc, disk, &mut life, plan)
 }
 
@@ -158,7 +163,10 @@ pub fn write<D: Disk + Drop>(
 ) -> Result<(), Wrong> {
     let bytes = server.to_write(token);
     if !server.is_settled() && !bytes.is_empty() {
-        return Err(Wrong::TooEarly);
+        if life.release == Release::Synced {
+            return Err(Wrong::TooEarly);
+        }
+        life.was_early = true;
     }
     let count = chance as usize % (bytes.len() + 1);
     life.gave(alloc, token, &bytes[..count])?;

@@ -6,6 +6,7 @@ use crate::texts::{HEAD, file, text_of};
 use crate::wrong::Wrong;
 use disk_testing::Mixing;
 use sqlite_disk::{Crash, Disk};
+use ssi_durable::Release;
 use ssi_log::LogFault;
 use std::alloc::Global;
 
@@ -18,13 +19,14 @@ pub fn is(found: &[u8], wanted: &[u8]) -> Result<(), Wrong> {
 }
 
 /// The plan is followed, and after it and a crash the file has this text.
-fn leaves<P: Plan>(
+pub fn leaves<P: Plan>(
     alloc: Global,
     disk: &mut Mixing,
+    release: Release,
     plan: &mut P,
     text: &[u8],
 ) -> Result<(), Wrong> {
-    live_over(alloc, disk, plan)?;
+    live_over(alloc, disk, release, plan)?;
     disk.crash();
     is(text_of(disk), text)
 }
@@ -84,6 +86,7 @@ pub fn replies(alloc: Global) -> Result<(), Wrong> {
     leaves(
         alloc,
         &mut file(alloc, 0, HEAD, 1000)?,
+        Release::Synced,
         &mut TwoClients,
         b"# ssi log 1 segment 1\n# loaded\nbegin a\nput a k 1\nbegin b\nget b k\nget a k\n",
     )
@@ -121,7 +124,7 @@ impl Plan for TwoClients {
 }
 
 /// The connection sends the bytes, and its lines are carried out.
-fn say<D: Disk + Drop>(
+pub fn say<D: Disk + Drop>(
     alloc: Global,
     server: &mut Serving<D>,
     token: u64,
@@ -205,7 +208,13 @@ pub fn lines_that_count(alloc: Global) -> Result<(), Wrong> {
         lines: LINES,
         replies: REPLIES,
     };
-    leaves(alloc, &mut file(alloc, 0, HEAD, 1000)?, &mut talk, COUNTED)
+    leaves(
+        alloc,
+        &mut file(alloc, 0, HEAD, 1000)?,
+        Release::Synced,
+        &mut talk,
+        COUNTED,
+    )
 }
 
 /// The file can't grow. Lines are carried out while there is room, and then they wait; `stop` doesn't.
@@ -215,6 +224,7 @@ pub fn full_disk(alloc: Global) -> Result<(), Wrong> {
     leaves(
         alloc,
         &mut disk,
+        Release::Synced,
         &mut FillUp,
         b"# ssi log 1 segment 1\n# loaded\nbegin a\nget a k\n",
     )

@@ -7,6 +7,8 @@ use Rattle.ssi_arguments.specs.declared.arguments.Manner.{Manner}
 use Rattle.ssi_arguments.specs.declared.arguments.Manner.TheVariants.{InTurn, AtOnce, Aborting}
 use Rattle.ssi_arguments.specs.declared.arguments.LeftOpen.{LeftOpen}
 use Rattle.ssi_arguments.specs.declared.arguments.LeftOpen.TheVariants.{Keep, Abort}
+use Rattle.ssi_arguments.specs.declared.arguments.Replies.{Replies}
+use Rattle.ssi_arguments.specs.declared.arguments.Replies.TheVariants.{Synced, Early}
 use Rattle.ssi_arguments.specs.declared.storage.Storage.{Storage}
 use Rattle.ssi_arguments.specs.declared.storage.Storage.TheVariants.{Files, Folder}
 use Rattle.ssi_arguments.specs.Clauses.Storage.{storage_in}
@@ -53,9 +55,9 @@ files_app =
 -- `serve` with a folder
 abbrev pub folder_app : App
 folder_app =
-    with_rule (with_rule (with_rule (with_rule (with_rule (new_app (codes "serve")) (file_rule (codes "SOCKET")))
-    (flag_rule (codes "abort-on-close"))) (value_rule (codes "segment") false)) (value_rule (codes "idle") false))
-    (value_rule (codes "data") true)
+    with_rule (with_rule (with_rule (with_rule (with_rule (with_rule (new_app (codes "serve")) (file_rule (codes "SOCKET")))
+    (flag_rule (codes "abort-on-close"))) (flag_rule (codes "early"))) (value_rule (codes "segment") false))
+    (value_rule (codes "idle") false)) (value_rule (codes "data") true)
 
 abbrev pub serve_app : Storage → App
 serve_app Files = files_app
@@ -90,13 +92,17 @@ manner_in rows =
 abbrev pub left_open_in : List Row → LeftOpen
 left_open_in rows = if is_given rows (codes "abort-on-close") then Abort else Keep
 
+-- what replies they ask for
+abbrev pub replies_in : List Row → Replies
+replies_in rows = if is_given rows (codes "early") then Early else Synced
+
 -- the request of `serve`, in the form that keeps what it does there
 abbrev pub request_served : Storage → List Row → Request
 request_served Files rows =
     serve (manner_in rows) (path_in rows (codes "SOCKET")) (path_in rows (codes "HISTORY")) (path_in rows (codes "CERTIFICATE"))
 request_served Folder rows =
-    keep (left_open_in rows) (first_of (codes "segment") rows) (first_of (codes "idle") rows) (path_in rows (codes "SOCKET"))
-    (path_in rows (codes "data"))
+    keep (left_open_in rows) (replies_in rows) (first_of (codes "segment") rows) (first_of (codes "idle") rows)
+    (path_in rows (codes "SOCKET")) (path_in rows (codes "data"))
 
 -- the request of a command of this name with these matches
 abbrev pub request_named : Storage → Text → List Row → Request

@@ -6,7 +6,7 @@ use Rattle.ssi_store.specs.Meaning.Contents.{contents_after}
 use Rattle.ssi_store.specs.Meaning.Courses.{Course, txn_in}
 use Rattle.ssi_hub.specs.Clauses.Calls.{Call}
 use Rattle.ssi_durable.specs.declared.server.Server.{Server}
-use Rattle.ssi_durable.specs.Clauses.Serving.{Began}
+use Rattle.ssi_durable.specs.Clauses.Serving.{Began, begun_next}
 use Rattle.ssi_durable.specs.Mirror.Servers.{Serves}
 use Rattle.ssi_loads.specs.Meaning.Loads.{first_lines}
 use Rattle.ssi_cli.specs.Clauses.Leaving.{abort_calls}
@@ -28,7 +28,7 @@ module _ {T D : Type 0} {disk : Ghosts D} (dumps : Bool) (is_at : T → Course �
     pub come : HasComeTo began (abort_calls aborts ++ calls) course
     pub idle : (s : Bytes) → txn_in s course ≡ None
     pub serves : Serves dumps is_at next
-        (record { lines = first_lines next (contents_after course); before = abort_calls aborts ++ calls }) new
+        (begun_next began (first_lines next (contents_after course)) (abort_calls aborts ++ calls)) new
         (abort_calls aborts ++ calls)
 
   -- it has, or it goes on as it was, and at most sessions that had a transaction were aborted

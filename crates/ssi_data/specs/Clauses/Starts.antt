@@ -18,10 +18,10 @@ module _ {T D : Type 0} {disk : Ghosts D} where
 
   -- The server of segment n serves the whole lines of this text, with no call so far. The text is that of the file that
   -- showed these bytes, if no wrong answer was taken as true. It has so many whole lines, so many bytes after the last one, and
-  -- so many bytes of loads
-  pub record HasStarted (dumps : Bool) (is_at : T → Course → Type 0) (n : ℕ) (seen : Bytes) (server : Server T D disk)
+  -- so many bytes of loads. Of all replies only `committed` waits for the disk if it is so early
+  pub record HasStarted (early dumps : Bool) (is_at : T → Course → Type 0) (n : ℕ) (seen : Bytes) (server : Server T D disk)
       (recovered : Recovered) (text : Bytes) : Type 0 where
-    pub serves : Serves dumps is_at n (from_start (whole_lines text)) server []
+    pub serves : Serves dumps is_at n (from_start early (whole_lines text)) server []
     pub read : IsClean server → text_of seen ≡ text
     pub lines : recovered.lines ≡ length (whole_lines text)
     pub torn : recovered.torn ≡ length (torn text)

@@ -115,13 +115,13 @@ returns-clause-kept c =
     ap storage_for (returns-clause-task c).1 ∙ keeps_by_option (map string_bytes c.args.arguments.now)
 
 pub returns-clause-kept_alone : goal.returns-clause-kept_alone
-returns-clause-kept_alone c = λ l g i f others p e.
+returns-clause-kept_alone c = λ l r g i f others p e.
     let arguments = map string_bytes c.args.arguments.now in
-    let socket = asks_to_keep arguments l g i f others p e (returns-clause-task c).0 in
-    let one : arguments_of (keep l g i socket.0 f) ≡ drop 1 arguments =
-    sym (e ∙ ap (λ ws. codes "serve" ∷ folder_options_of l g i f ++ ws) socket.1) in
+    let socket = asks_to_keep arguments l r g i f others p e (returns-clause-task c).0 in
+    let one : arguments_of (keep l r g i socket.0 f) ≡ drop 1 arguments =
+    sym (e ∙ ap (λ ws. codes "serve" ∷ folder_options_of l r g i f ++ ws) socket.1) in
     let plain = subst (λ ws. are_plain (f ∷ given g ++ given i ++ ws) ≡ true) socket.1 p in
-    sym one ∙ ap arguments_of (sym (returns-clause-asked c (keep l g i socket.0 f) plain (sym one)))
+    sym one ∙ ap arguments_of (sym (returns-clause-asked c (keep l r g i socket.0 f) plain (sym one)))
 
 pub returns-clause-kept_at_once : goal.returns-clause-kept_at_once
 returns-clause-kept_at_once c = λ folder has.

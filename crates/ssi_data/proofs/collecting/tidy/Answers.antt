@@ -8,6 +8,13 @@ returns-then-versions-saturating_mul-clause-tidied g c =
     none_noted dumps is_at c.calls_are_deeds.ensures.quiet c.args.tables.now.users c.args.server.now c.versions-versions.new.self _
     (none_opened dumps is_at c.args.server.now c.versions-versions.new.self _ c.versions-versions.ensures.serves)
 
+pub returns-then-saturating_sub-lt-COMMITS-clause-tidied : goal.returns-then-saturating_sub-lt-COMMITS-clause-tidied
+returns-then-saturating_sub-lt-COMMITS-clause-tidied g c =
+    let dumps = g.T.ProtocolStore.keeps in
+    let is_at = g.T.AnyStore.is_at in
+    none_noted dumps is_at c.calls_are_deeds.ensures.quiet c.args.tables.now.users c.args.server.now c.args.server.now _
+    (none_opened dumps is_at c.args.server.now c.args.server.now _ (λ n began calls s. s))
+
 pub returns-in-Ok-clause-tidied : goal.returns-in-Ok-clause-tidied
 returns-in-Ok-clause-tidied g c =
     made_between g.T.ProtocolStore.keeps g.T.AnyStore.is_at c.args.server.now c.versions-versions.new.self c.carry_out_own-done.new.server

@@ -9,8 +9,16 @@ returns-in-Err-clause-on g c =
 pub returns-then-is_stopped-clause-on : goal.returns-then-is_stopped-clause-on
 returns-then-is_stopped-clause-on g c =
     let on = then_on g.T.ProtocolStore.keeps g.T.AnyStore.is_at in
-    on c.args.clients.now c.round.new.self c.write_all.new.self
-    (on c.args.clients.now c.loop.clients c.round.new.self c.loop.invariant c.round.ensures.on) c.write_all.ensures.on
+    on c.args.clients.now c.settle.new.self c.write_all.new.self
+    (on c.args.clients.now c.round.new.self c.settle.new.self
+    (on c.args.clients.now c.loop.clients c.round.new.self c.loop.invariant c.round.ensures.on) c.settle.ensures.on)
+    c.write_all.ensures.on
+
+pub returns-in-Err-settle-clause-on : goal.returns-in-Err-settle-clause-on
+returns-in-Err-settle-clause-on g c =
+    let on = then_on g.T.ProtocolStore.keeps g.T.AnyStore.is_at in
+    on c.args.clients.now c.round.new.self c.settle.new.self
+    (on c.args.clients.now c.loop.clients c.round.new.self c.loop.invariant c.round.ensures.on) c.settle.ensures.on
 
 pub returns-in-Err-end_all-clause-on : goal.returns-in-Err-end_all-clause-on
 returns-in-Err-end_all-clause-on g c =

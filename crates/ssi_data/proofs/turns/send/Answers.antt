@@ -1,7 +1,8 @@
-use Rattle.std.proofs.Common.{◌≡◌, ◌<◌, ◌∙◌, ℕ, List, [], length, refl, sym, ap, subst, pos_of_ne-zero, arith}
+use Rattle.std.proofs.Common.{◌≡◌, ◌<◌, ◌∙◌, ℕ, List, [], length, refl, sym, ap, subst, pos_of_ne-zero, length-drop, arith}
 use Rattle.ssi_cli.specs.Clauses.Turns.{Exchanged}
 use Rattle.ssi_cli.specs.Mirror.{stream_of}
-use Rattle.ssi_data.proofs.Makings.{none_exchanged, makes_none, is_sent, sends, sends_less, stays, breaks, some_bytes}
+use Rattle.ssi_durable.specs.Mirror.Servers.{to_give}
+use Rattle.ssi_data.proofs.Makings.{none_exchanged, makes_none, sends, stays, breaks, some_bytes}
 use Rattle.ssi_data.proofs.turns.send.Goals as goal
 
 pub loop-count-init : goal.loop-count-init
@@ -17,9 +18,7 @@ loop-count-init g c =
       input = refl;
       steady = λ e. e;
       apart = refl;
-      counted = ap (λ (l : List ℕ). length l)
-          (is_sent dumps is_at c.args.server.now c.args.token c.to_write-left.result.now c.to_write-left.ensures.unsettled
-          c.to_write-left.ensures.settled);
+      counted = ap (λ (l : List ℕ). length l) c.to_write-left.ensures;
       fewer = λ e. omega (arith, c.to_write-left.type_inv.0);
     }
 
@@ -33,8 +32,7 @@ pub returns-in-Never-clause-broken : goal.returns-in-Never-clause-broken
 returns-in-Never-clause-broken g c =
     let dumps = g.T.ProtocolStore.keeps in
     let is_at = g.T.AnyStore.is_at in
-    let out = is_sent dumps is_at c.loop-count.server c.args.token c.to_write.result.now c.to_write.ensures.unsettled
-    c.to_write.ensures.settled in
+    let out = c.to_write.ensures in
     let some : 0 < length c.to_write.result.now =
     subst (λ (n : ℕ). 0 < n) (c.loop-count.invariant.counted ∙ sym (ap (λ (l : List ℕ). length l) out))
     (pos_of_ne-zero c.if-left-eq0.false) in (
@@ -49,8 +47,7 @@ pub loop-count-preserved : goal.loop-count-preserved
 loop-count-preserved g c =
     let dumps = g.T.ProtocolStore.keeps in
     let is_at = g.T.AnyStore.is_at in
-    let out = is_sent dumps is_at c.loop-count.server c.args.token c.to_write.result.now c.to_write.ensures.unsettled
-    c.to_write.ensures.settled in
+    let out = c.to_write.ensures in
     let many : length c.to_write.result.now ≡ c.loop-count.left =
     ap (λ (l : List ℕ). length l) out ∙ sym c.loop-count.invariant.counted in
     let some : 0 < length c.to_write.result.now = subst (λ (n : ℕ). 0 < n) (sym many) (pos_of_ne-zero c.if-left-eq0.false) in
@@ -65,8 +62,8 @@ loop-count-preserved g c =
       steady = λ e. (c.write.ensures.steady (c.loop-count.invariant.steady e) some).0;
       apart = c.write.ensures.read ∙ c.loop-count.invariant.apart;
       counted =
-          let less = sends_less dumps is_at c.loop-count.server c.written.new.self c.args.token c.in-Bytes.count
-          c.written.ensures.settled (λ e. (c.written.ensures.written e).own) in
+          let less = ap (λ (l : List ℕ). length l) c.written.ensures.given
+          ∙ length-drop c.in-Bytes.count (to_give c.loop-count.server c.args.token) in
           omega (arith, less, c.loop-count.invariant.counted);
       fewer = λ e.
           let (n, same, more) = (c.in-Bytes.ensures.steady (c.loop-count.invariant.steady e) some).1 in

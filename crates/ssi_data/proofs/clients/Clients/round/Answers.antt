@@ -1,33 +1,21 @@
-use Rattle.ssi_data.proofs.Rounds.{both, same_calls}
+use Rattle.ssi_data.proofs.Rounds.{then_on}
 use Rattle.ssi_data.proofs.clients.Clients.round.Goals as goal
 
 pub returns-in_err-take_all-clause-on : goal.returns-in_err-take_all-clause-on
 returns-in_err-take_all-clause-on g c =
-    both g.T.ProtocolStore.keeps g.T.AnyStore.is_at c.args.self.now.tables.users c.go_on.new.self.tables.users
-    c.take_all.new.self.tables.users c.args.self.now.server c.go_on.new.self.server c.take_all.new.self.server c.go_on.ensures.on
+    then_on g.T.ProtocolStore.keeps g.T.AnyStore.is_at c.args.self.now c.go_on.new.self c.take_all.new.self c.go_on.ensures.on
     c.take_all.ensures.on
 
-pub returns-in_err-settle-clause-on : goal.returns-in_err-settle-clause-on
-returns-in_err-settle-clause-on g c =
-    both g.T.ProtocolStore.keeps g.T.AnyStore.is_at c.args.self.now.tables.users c.take_all.new.self.tables.users
-    c.take_all.new.self.tables.users c.args.self.now.server c.take_all.new.self.server c.settle.new.self
-    (both g.T.ProtocolStore.keeps g.T.AnyStore.is_at c.args.self.now.tables.users c.go_on.new.self.tables.users
-    c.take_all.new.self.tables.users c.args.self.now.server c.go_on.new.self.server c.take_all.new.self.server c.go_on.ensures.on
-    c.take_all.ensures.on)
-    (same_calls g.T.ProtocolStore.keeps g.T.AnyStore.is_at c.calls_are_deeds.ensures.done
-    c.calls_are_deeds.ensures.quiet c.take_all.new.self.tables.users c.take_all.new.self.server c.settle.new.self
-    c.settle.ensures.serves)
+pub returns-in_err-release-clause-on : goal.returns-in_err-release-clause-on
+returns-in_err-release-clause-on g c =
+    let on = then_on g.T.ProtocolStore.keeps g.T.AnyStore.is_at in
+    on c.args.self.now c.take_all.new.self c.release.new.self
+    (on c.args.self.now c.go_on.new.self c.take_all.new.self c.go_on.ensures.on c.take_all.ensures.on) c.release.ensures.on
 
 pub returns-clause-on : goal.returns-clause-on
 returns-clause-on g c =
-    both g.T.ProtocolStore.keeps g.T.AnyStore.is_at c.args.self.now.tables.users c.take_all.new.self.tables.users
-    c.reply_all.new.self.tables.users c.args.self.now.server c.settle.new.self c.reply_all.new.self.server
-    (both g.T.ProtocolStore.keeps g.T.AnyStore.is_at c.args.self.now.tables.users c.take_all.new.self.tables.users
-    c.take_all.new.self.tables.users c.args.self.now.server c.take_all.new.self.server c.settle.new.self
-    (both g.T.ProtocolStore.keeps g.T.AnyStore.is_at c.args.self.now.tables.users c.go_on.new.self.tables.users
-    c.take_all.new.self.tables.users c.args.self.now.server c.go_on.new.self.server c.take_all.new.self.server c.go_on.ensures.on
-    c.take_all.ensures.on)
-    (same_calls g.T.ProtocolStore.keeps g.T.AnyStore.is_at c.calls_are_deeds.ensures.done
-    c.calls_are_deeds.ensures.quiet c.take_all.new.self.tables.users c.take_all.new.self.server c.settle.new.self
-    c.settle.ensures.serves))
+    let on = then_on g.T.ProtocolStore.keeps g.T.AnyStore.is_at in
+    on c.args.self.now c.release.new.self c.reply_all.new.self
+    (on c.args.self.now c.take_all.new.self c.release.new.self
+    (on c.args.self.now c.go_on.new.self c.take_all.new.self c.go_on.ensures.on c.take_all.ensures.on) c.release.ensures.on)
     c.reply_all.ensures.on

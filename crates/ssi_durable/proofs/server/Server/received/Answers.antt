@@ -9,7 +9,7 @@ returns-clause-serves g c = λ n began calls was.
     match_by c.received.result
     (λ x stands. quiet g.S.ProtocolStore.keeps g.S.AnyStore.is_at n began c.args.self.now now calls
     (with_call (Received c.args.token c.args.bytes.now) calls) (received_is_quiet c.args.token c.args.bytes.now calls) was stands
-    refl was.keeps)
+    refl refl refl was.keeps)
     (λ e stands. quiet g.S.ProtocolStore.keeps g.S.AnyStore.is_at n began c.args.self.now now calls calls (same_is_quiet calls) was
-    stands refl was.keeps)
+    stands refl refl refl was.keeps)
     (c.received.ensures.stands g.S.ProtocolStore.keeps calls was.stands)
