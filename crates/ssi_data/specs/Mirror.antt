@@ -46,6 +46,10 @@ module _ {T D : Type 0} {disk : Ghosts D} where
   abbrev pub due_of : Clients T D disk → ℕ
   due_of clients = clients.due
 
+  -- in how many rounds the sync was put off that a reply waits for
+  abbrev pub put_off_of : Clients T D disk → ℕ
+  put_off_of clients = clients.put_off
+
   -- its server and its table have gone on
   abbrev pub GoOn : (dumps : Bool) → (T → Course → Type 0) → (old new : Clients T D disk) → Type 0
   GoOn dumps is_at old new = GoesOn dumps is_at (users_of old) (server_of old) (users_of new) (server_of new)

@@ -1,6 +1,6 @@
 //! The connections that use a server, and their sockets.
 
-ghost use Rattle.std.specs.Prelude.{◌≡◌, ◌+◌, ◌-◌, ◌/◌, ◌^◌, ℕ, List, [], None, Some, true, false, is_some, min, nat_lt, IsTrue, OnOk, OnErr, IfOk, IfErr};
+ghost use Rattle.std.specs.Prelude.{◌≡◌, ◌<◌, ◌≤◌, ◌⊎◌, ◌+◌, ◌-◌, ◌/◌, ◌^◌, ℕ, List, [], None, Some, true, false, is_some, min, nat_lt, IsTrue, OnOk, OnErr, IfOk, IfErr};
 ghost use Rattle.std.specs.Option.{option_map};
 ghost use Rattle.adya_keys.specs.Meaning.Keys.{Bytes};
 ghost use Rattle.ssi_store.specs.Meaning.Courses.{Course, txn_in};
@@ -42,6 +42,9 @@ use std::time::Duration;
 /// After this many seconds it is tried again to have the file of the log grow.
 const ROOM_AGAIN: u64 = 1;
 
+/// In so many rounds, one after the other, the sync for a commit is put off at most, while more comes of the connections.
+const MOST_PUT_OFF: u32 = 16;
+
 /// After this many seconds without an event it is looked which sessions had no command.
 const IDLE_AGAIN: u64 = 1;
 
@@ -63,10 +66,12 @@ pub struct Clients<T: Drop, D: Disk + Drop> {
     due: usize,
     // what was found when versions were counted last
     upkeep: Upkeep,
+    // in how many rounds the sync was put off that a reply waits for
+    put_off: u32,
 }
 
 impl<T: ProtocolStore + Drop, D: Disk + Drop> Clients<T, D> {
-    ghost use Rattle.ssi_data.specs.Mirror.{GoOn, due_of, limit_of, most_of, second_of, seconds_of, server_of, times_of, users_of};
+    ghost use Rattle.ssi_data.specs.Mirror.{GoOn, due_of, limit_of, most_of, put_off_of, second_of, seconds_of, server_of, times_of, users_of};
 
     /// Those of a server that has no connection yet. Sessions that had no command for longer than `idle` says are aborted; one that
     /// had none yet isn't, also if it has a transaction. Its segment is left once its log has more than `most` bytes, and more than
@@ -105,6 +110,7 @@ impl<T: ProtocolStore + Drop, D: Disk + Drop> Clients<T, D> {
                 commits: 0,
                 versions: 0,
             },
+            put_off: 0,
         }
     }
 
@@ -206,24 +212,43 @@ impl<T: ProtocolStore + Drop, D: Disk + Drop> Clients<T, D> {
         self.full = None;
         self.go_on(alloc, room)?;
         self.take_all(alloc, events, room)?;
-        self.release()?;
+        self.release(events)?;
         self.reply_all();
         Ok(())
     }
 
     /// Sees to it that no reply waits for the disk: if some do then all lines that count are put on it, and the replies that don't wait
-    /// are written before.
-    fn release(&mut self) -> Result<(), LogFault>
+    /// are written before. If only `committed` waits then this is put off, for a few rounds, while more comes of the connections: so
+    /// more commits share a sync.
+    fn release(&mut self, events: &Events) -> Result<(), LogFault>
         ensures on { GoOn T.keeps T.is_at self.old self.new }
-        ensures given { OnOk result (has_failed (server_of self.new) ≡ false → (t : ℕ)
+        ensures given { OnOk result (put_off_of self.new ≡ 0 → has_failed (server_of self.new) ≡ false → (t : ℕ)
             → to_give (server_of self.new) t ≡ unsent_of (buffers_of (hub_of (server_of self.new)) t)) }
+        ensures rounds { (put_off_of self.new ≡ 0) ⊎ ((put_off_of self.new ≡ put_off_of self.old + 1) × (put_off_of self.old < 16)) }
         ensures failed { OnErr result (has_failed (server_of self.new) ≡ true) }
     {
         if !self.server.is_waiting() {
+            self.put_off = 0;
+            return Ok(());
+        }
+        if self.may_put_off(events) {
+            self.put_off += 1;
             return Ok(());
         }
         self.write_early();
-        self.settle()
+        let done = self.settle();
+        self.put_off = 0;
+        done
+    }
+
+    /// Returns whether more may come at once that shares the sync: something came, and of some connection no reply waits.
+    fn may_put_off(&self, events: &Events) -> bool
+        ensures { result ≡ true → put_off_of self.now < 16 }
+    {
+        self.server.release().is_early()
+            && self.put_off < MOST_PUT_OFF
+            && !events.is_empty()
+            && self.server.waiting() < self.peers.len()
     }
 
     /// Writes the replies that don't wait for the disk, if some do and others don't.
@@ -342,6 +367,10 @@ impl<T: ProtocolStore + Drop, D: Disk + Drop> Clients<T, D> {
         }
         let _ = reply(token, peer, &mut self.server);
         calls_are_deeds();
+        if self.put_off > 0 && self.server.wants_write(token) {
+            // it is written once the sync comes
+            peer.set_due(true);
+        }
         if !self.server.is_open(token) {
             // its turn ends once it is removed
             peer.set_due(true);

@@ -15,7 +15,7 @@ use ssi_line::ProtocolStore;
 /// ready. In a round each connection that is ready carries out up to 256 lines; then all lines that count are put on the disk
 /// by one sync; and only then the replies are written. So what a client reads rests on lines that are on the disk. With
 /// [`Release::Early`](ssi_durable::Release::Early) the replies before the first `committed` to a connection are written before that, and
-/// the sync is left out if none is there.
+/// the sync is left out if none is there; it is put off, for 16 rounds at most, while more comes of the connections.
 ///
 /// Goes on until `stop` is carried out, the log or the socket fails, the file of the log can't grow, or the log is so long that
 /// the next segment is to be begun. After `Full` call it again: meanwhile nothing is lost, and no line is carried out but

@@ -2,7 +2,7 @@
 
 ghost use Rattle.std.specs.Prelude.{◌≡◌, ◌≢◌, ◌-◌, ℕ, None, true, false};
 ghost use Rattle.std.specs.Option.{option_map};
-ghost use Rattle.ssi_durable.specs.Mirror.Holds.{HasHeld, all_wait, free_in, front_by};
+ghost use Rattle.ssi_durable.specs.Mirror.Holds.{HasHeld, all_wait, free_in, front_by, held_len};
 
 use indexmap::IndexMap;
 use std::alloc::Global;
@@ -73,6 +73,13 @@ impl Holds {
         ensures all { result ≡ true → all_wait self.now ≡ false }
     {
         !self.all && self.free.is_empty()
+    }
+
+    /// Returns of how many connections a reply waits, as far as memory could hold it.
+    pub(crate) fn len(&self) -> usize
+        ensures { result ≡ held_len self.now }
+    {
+        self.free.len()
     }
 
     /// Returns those of a connection's unsent bytes that don't wait.

@@ -20,7 +20,7 @@ ghost use Rattle.ssi_durable.specs.Clauses.Journals.{HasAll, is_full};
 ghost use Rattle.ssi_durable.specs.Clauses.Recovery.{IsReplayed};
 ghost use Rattle.ssi_durable.specs.Clauses.Holding.{is_early};
 ghost use Rattle.ssi_durable.specs.Clauses.Serving.{Began, begun_next, from_start};
-ghost use Rattle.ssi_durable.specs.Mirror.Holds.{HasHeld, all_wait};
+ghost use Rattle.ssi_durable.specs.Mirror.Holds.{HasHeld, all_wait, held_len};
 ghost use Rattle.ssi_durable.specs.Mirror.Journals.{HasRoom};
 ghost use Rattle.ssi_durable.specs.Machinery.Noting.{noted};
 ghost use Rattle.ssi_durable.specs.Clauses.Counts.{HasVersions, commits_with, is_counted};
@@ -374,6 +374,14 @@ impl<S: ProtocolStore + Drop, D: Disk + Drop> Server<S, D> {
             Release::Early => !self.holds.is_empty(),
             Release::Synced => !self.journal.is_settled(),
         }
+    }
+
+    /// Returns of how many connections a `committed` waits, if no other reply does; a connection that is gone counts until then as well.
+    /// None if memory ran out for that.
+    pub fn waiting(&self) -> usize
+        ensures { result ≡ held_len (holds_of self.now) }
+    {
+        self.holds.len()
     }
 
     /// Returns whether all lines that count are on the disk.

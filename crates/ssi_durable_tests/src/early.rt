@@ -68,7 +68,8 @@ fn go_on<D: Disk + Drop>(
         server.to_write(one),
         b"committed\nbegun 2\ndone\nconflict k 3\n",
     )?;
-    if server.settle().is_err() {
+    // of one of them a reply waits, and then of none
+    if server.waiting() != 1 || server.settle().is_err() || server.waiting() != 0 {
         return Err(Wrong::Failed);
     }
     is(server.to_write(two), b"begun 3\nvalue 1\ndone\ncommitted\n")

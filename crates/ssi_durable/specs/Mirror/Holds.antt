@@ -1,5 +1,5 @@
 -- What clauses see of the replies that wait.
-use Rattle.std.specs.Prelude.{◌≡◌, ◌≢◌, ℕ, Bool, true, false, [], take, Option, Some, None, nat_eq, if◌then◌else◌}
+use Rattle.std.specs.Prelude.{◌≡◌, ◌≢◌, ℕ, Bool, true, false, [], length, take, Option, Some, None, nat_eq, if◌then◌else◌}
 use Rattle.std.specs.Map.{lookup}
 use Rattle.adya_keys.specs.Meaning.Keys.{Bytes}
 use Rattle.ssi_durable.specs.declared.holds.Holds.{Holds}
@@ -7,6 +7,10 @@ use Rattle.ssi_durable.specs.declared.holds.Holds.{Holds}
 -- memory couldn't hold which replies wait, and all of them do
 abbrev pub all_wait : Holds → Bool
 all_wait holds = holds.all
+
+-- of how many connections a reply waits, as far as memory could hold it
+abbrev pub held_len : Holds → ℕ
+held_len holds = length holds.free.entries
 
 -- how many bytes may be given out to the connection, if a reply waits
 abbrev pub free_in : Holds → ℕ → Option ℕ
