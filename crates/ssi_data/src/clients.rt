@@ -68,6 +68,8 @@ pub struct Clients<T: Drop, D: Disk + Drop> {
     upkeep: Upkeep,
     // in how many rounds the sync was put off that a reply waits for
     put_off: u32,
+    // how long the log was at the last sync that was waited for
+    synced: usize,
 }
 
 impl<T: ProtocolStore + Drop, D: Disk + Drop> Clients<T, D> {
@@ -111,6 +113,7 @@ impl<T: ProtocolStore + Drop, D: Disk + Drop> Clients<T, D> {
                 versions: 0,
             },
             put_off: 0,
+            synced: 0,
         }
     }
 
@@ -238,10 +241,12 @@ impl<T: ProtocolStore + Drop, D: Disk + Drop> Clients<T, D> {
         self.write_early();
         let done = self.settle();
         self.put_off = 0;
+        self.synced = self.server.log_len();
         done
     }
 
-    /// Returns whether more may come at once that shares the sync: something came, and of some connection no reply waits.
+    /// Returns whether more may come at once that shares the sync: something came, and of some connection no reply waits. Nobody waits
+    /// for more lines than fit into what is gathered before it is handed to the log.
     fn may_put_off(&self, events: &Events) -> bool
         ensures { result ≡ true → put_off_of self.now < 16 }
     {
@@ -249,6 +254,7 @@ impl<T: ProtocolStore + Drop, D: Disk + Drop> Clients<T, D> {
             && self.put_off < MOST_PUT_OFF
             && !events.is_empty()
             && self.server.waiting() < self.peers.len()
+            && self.server.log_len() == self.synced
     }
 
     /// Writes the replies that don't wait for the disk, if some do and others don't.
