@@ -1,6 +1,6 @@
 -- What may be given out to a connection, and what is left of it.
 use Rattle.std.proofs.Common.{◌≡◌, ℕ, zero, suc, ◌+◌, ◌-◌, ◌≤◌, ◌<◌, ◌⊎◌, inl, inr, Bool, true, false, cond, Option, Some, None, nat_eq, min, List, [], ◌∷◌, ◌++◌, length, take, drop, refl, sym, ◌∙◌, ap, subst, arith}
-use Rattle.std.specs.Prelude.{◌==◌, codes, MatchOption}
+use Rattle.std.specs.Prelude.{◌==◌, codes}
 use Rattle.std.specs.Option.{option_map}
 use Rattle.std.specs.List.{starts_with}
 use Rattle.std.proofs.lemmas.Bool.{false≢true, eq-eqb}
@@ -47,10 +47,6 @@ pub is_at_open : (dumps : Bool) (hub : Hub) (calls : List Call) (t : ℕ) (b : B
 is_at_open dumps hub calls t b stands has =
     let (left, unsent, served, is) = stands.served t in
     at_by dumps t calls b left unsent served (is_open t calls) refl (sym has ∙ is)
-
-pub unsent_by : (hub : Hub) (t : ℕ) (b : Buffers) (bytes : Bytes)
-    → MatchOption (buffers_of hub t) (bytes ≡ []) (λ b. bytes ≡ b.unsent) → buffers_of hub t ≡ Some b → bytes ≡ b.unsent
-unsent_by hub t b bytes is has = subst (λ (o : Option Buffers). MatchOption o (bytes ≡ []) (λ b. bytes ≡ b.unsent)) has is
 
 -- one that isn't has nothing unsent
 pub closed_has_none : (dumps : Bool) (hub : Hub) (calls : List Call) (t : ℕ) → Stands dumps hub calls → is_open t calls ≡ false

@@ -1,6 +1,6 @@
 //! A store that many connections use, with a log of the lines that it has carried out.
 
-ghost use Rattle.std.specs.Prelude.{◌≡◌, ℕ, List, [], ◌∷◌, ◌++◌, None, Some, true, false, IfOk, OnOk, OnErr, IfErr, IfSome, IfNone, MatchResult, MatchOption, if◌then◌else◌, is_some, not, ◌&&◌, nat_eq, nat_le, nat_lt, length, map, take, drop, codes, option_map};
+ghost use Rattle.std.specs.Prelude.{◌≡◌, ℕ, List, [], ◌∷◌, ◌++◌, None, Some, true, false, IfOk, OnOk, OnErr, IfErr, IfSome, IfNone, MatchResult, MatchOption, if◌then◌else◌, is_some, not, ◌&&◌, nat_eq, nat_le, nat_lt, length, map, min, take, drop, codes, option_map};
 ghost use Rattle.std.specs.List.{starts_with};
 ghost use Rattle.adya_keys.specs.Meaning.Keys.{Bytes};
 ghost use Rattle.adya_line.specs.Meaning.Lines.{IsPlain};
@@ -8,7 +8,7 @@ ghost use Rattle.adya_values.specs.Mirror.Events.{final_of};
 ghost use Rattle.ssi_store.specs.Meaning.Contents.{contents_after};
 ghost use Rattle.ssi_store.specs.Meaning.Courses.{Course, txn_in};
 ghost use Rattle.ssi_hub.specs.Clauses.Calls.{Call, Opened, Received, Wrote, Closed, with_call};
-ghost use Rattle.ssi_hub.specs.Clauses.Buffers.{Buffers, with_received};
+ghost use Rattle.ssi_hub.specs.Clauses.Buffers.{Buffers, with_received, with_written};
 ghost use Rattle.ssi_hub.specs.Clauses.Clipping.{has_line};
 ghost use Rattle.ssi_hub.specs.Clauses.Stepping.{may_step};
 ghost use Rattle.ssi_hub.specs.Mirror.{buffers_of, next_token, is_stopped, Changed, IsSame};
@@ -167,7 +167,7 @@ impl<S: ProtocolStore + Drop, D: Disk + Drop> Server<S, D> {
         ensures when { is_some result ≡ may_step (is_stopped (hub_of self.old)) (buffers_of (hub_of self.old) token) }
     {
         note(&self.hub, token, &mut self.noted);
-        let before = self.hub.to_write(token).len();
+        let before = self.unsent_len(token);
         let Some(carried) = self.hub.step(alloc, token, &mut self.store) else {
             return None;
         };
@@ -179,6 +179,17 @@ impl<S: ProtocolStore + Drop, D: Disk + Drop> Server<S, D> {
         self.journal.add(self.noted.bytes());
         hold(self.release, &self.hub, token, before, &mut self.holds);
         Some(carried)
+    }
+
+    /// Returns how many bytes are unsent, if only `committed` waits; otherwise it makes no difference.
+    fn unsent_len(&self, token: u64) -> usize
+        ensures { gives_early self.now ≡ true → (b : Buffers) → buffers_of (hub_of self.now) token ≡ Some b
+            → result ≡ length b.unsent }
+    {
+        match self.release {
+            Release::Early => self.hub.to_write(token).len(),
+            Release::Synced => 0,
+        }
     }
 
     /// Waits until all lines that count are on the disk. After that the replies to all lines may be given out. If it fails, then
@@ -289,6 +300,8 @@ impl<S: ProtocolStore + Drop, D: Disk + Drop> Server<S, D> {
         ensures serves { (n : ℕ) (began : Began) (calls : List Call) → Serves S.keeps S.is_at n began self.old calls
             → Serves S.keeps S.is_at n began self.new (with_call (Wrote token (take count (to_give self.old token))) calls) }
         ensures given { to_give self.new token ≡ drop count (to_give self.old token) }
+        ensures written { Changed (hub_of self.old) (hub_of self.new) token
+            (option_map (with_written (min count (length (to_give self.old token)))) (buffers_of (hub_of self.old) token)) }
         ensures stopped { is_stopped (hub_of self.new) ≡ is_stopped (hub_of self.old) }
         ensures settled { is_settled self.new ≡ is_settled self.old }
         ensures failed { has_failed self.new ≡ has_failed self.old }

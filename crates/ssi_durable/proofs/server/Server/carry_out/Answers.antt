@@ -1,4 +1,4 @@
-use Rattle.std.proofs.Common.{length, [], ◌∷◌, ◌++◌, Bool, refl, sym, ◌∙◌, ap, subst}
+use Rattle.std.proofs.Common.{[], ◌∷◌, ◌++◌, Bool, refl, sym, ◌∙◌, ap, subst}
 use Rattle.adya_keys.specs.Meaning.Keys.{Bytes}
 use Rattle.ssi_hub.specs.Clauses.Outcomes.{lost_by}
 use Rattle.ssi_hub.specs.Mirror.{buffers_of, is_stopped}
@@ -7,7 +7,7 @@ use Rattle.ssi_durable.specs.Clauses.Counts.{commits_with}
 use Rattle.ssi_durable.specs.Mirror.Servers.{HasCounted}
 use Rattle.ssi_hub.specs.Clauses.Calls.{with_run}
 use Rattle.ssi_durable.proofs.Free.{uncounted_goes_on}
-use Rattle.ssi_durable.proofs.Giving.{grown_by, grown_freely, unsent_by}
+use Rattle.ssi_durable.proofs.Giving.{grown_by, grown_freely}
 use Rattle.ssi_durable.proofs.Counting.{first_counted}
 use Rattle.ssi_durable.proofs.Serving.{ready_has, was_false, was_true, line_served, not_counted, added_line}
 use Rattle.ssi_durable.proofs.server.Server.carry_out.Goals as goal
@@ -47,9 +47,9 @@ returns-clause-some g c = λ n began calls was.
           c.commands_are_words.ensures.lettered was is.made is.logged stands more refl
           (λ run early held follows.
           grown_by dumps self.hub c.step.new.self calls (with_run (lost_by c.in-Some.carried.outcome) t (line ∷ []) (step ∷ []) calls)
-          run.made t step self.holds c.hold.new.holds was.sure was.since began.before (length c.to_write-before.result.now) ready.0 was.stands stands
+          run.made t step self.holds c.hold.new.holds was.sure was.since began.before c.unsent_len-before.result ready.0 was.stands stands
           run.is run.steps run.adds.written_is was.parts ready.1
-          (ap (λ (l : Bytes). length l) (unsent_by self.hub t ready.0 c.to_write-before.result.now c.to_write-before.ensures ready.1))
+          (c.unsent_len-before.ensures (was.mode ∙ early) ready.0 ready.1)
           counted (c.hold.ensures.lost (was.mode ∙ early)) (c.hold.ensures.held (was.mode ∙ early)) held)
           (added_line dumps c.add.new.self (began.lines ++ logged was.sure) (began.lines ++ logged was.since) line step
           c.commands_are_words.ensures.short c.commands_are_words.ensures.printed is.made counted front c.bytes-2.result.now

@@ -1,6 +1,8 @@
 use Rattle.std.proofs.Common.{◌≡◌, ℕ, Bool, List, length, take, min, refl, ◌∙◌, ap, subst, ◌++◌}
+use Rattle.std.specs.Option.{option_map}
+use Rattle.ssi_hub.specs.Clauses.Buffers.{with_written}
 use Rattle.ssi_hub.specs.Clauses.Calls.{Wrote, with_call}
-use Rattle.ssi_hub.specs.Mirror.{Stands}
+use Rattle.ssi_hub.specs.Mirror.{Changed, Stands, buffers_of}
 use Rattle.ssi_durable.specs.Meaning.Logs.{logged}
 use Rattle.ssi_durable.specs.Clauses.Holding.{RestsOn}
 use Rattle.ssi_durable.specs.Mirror.Servers.{to_give}
@@ -38,3 +40,10 @@ returns-clause-given g c =
     given_left self now t c.args.count c.min-count.result
     (c.min-count.ensures ∙ ap (λ (l : List ℕ). min c.args.count (length l)) c.to_write.ensures) refl refl c.written.ensures.written.own
     c.written-2.ensures.all c.written-2.ensures.own
+
+pub returns-clause-written : goal.returns-clause-written
+returns-clause-written g c =
+    let self = c.args.self.now in
+    let t = c.args.token in
+    subst (λ (n : ℕ). Changed self.hub c.written.new.self t (option_map (with_written n) (buffers_of self.hub t)))
+    (c.min-count.ensures ∙ ap (λ (l : List ℕ). min c.args.count (length l)) c.to_write.ensures) c.written.ensures.written
