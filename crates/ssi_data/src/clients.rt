@@ -10,7 +10,7 @@ ghost use Rattle.ssi_log.specs.Machinery.Standing.{end_of};
 ghost use Rattle.ssi_durable.specs.Clauses.Journals.{HasAll, is_full};
 ghost use Rattle.ssi_durable.specs.Clauses.Recovery.{IsReplayed};
 ghost use Rattle.ssi_durable.specs.Clauses.Serving.{Began, begun_next};
-ghost use Rattle.ssi_durable.specs.Mirror.Servers.{Serves, hub_of, log_of, store_of, is_settled, has_failed, to_give, unsent_of};
+ghost use Rattle.ssi_durable.specs.Mirror.Servers.{Serves, hub_of, log_of, store_of, is_settled, has_failed, gives_early, to_give, unsent_of};
 ghost use Rattle.ssi_cli.specs.Clauses.Serving.{aborts};
 ghost use Rattle.ssi_cli.specs.Clauses.Turns.{called};
 ghost use Rattle.ssi_data.specs.Clauses.Aborting.{HasAbortedOpen};
@@ -227,6 +227,7 @@ impl<T: ProtocolStore + Drop, D: Disk + Drop> Clients<T, D> {
         ensures on { GoOn T.keeps T.is_at self.old self.new }
         ensures given { OnOk result (put_off_of self.new ≡ 0 → has_failed (server_of self.new) ≡ false → (t : ℕ)
             → to_give (server_of self.new) t ≡ unsent_of (buffers_of (hub_of (server_of self.new)) t)) }
+        ensures synced { gives_early (server_of self.old) ≡ false → put_off_of self.new ≡ 0 }
         ensures rounds { (put_off_of self.new ≡ 0) ⊎ ((put_off_of self.new ≡ put_off_of self.old + 1) × (put_off_of self.old < 16)) }
         ensures failed { OnErr result (has_failed (server_of self.new) ≡ true) }
     {
@@ -248,7 +249,8 @@ impl<T: ProtocolStore + Drop, D: Disk + Drop> Clients<T, D> {
     /// Returns whether more may come at once that shares the sync: something came, and of some connection no reply waits. Nobody waits
     /// for more lines than fit into what is gathered before it is handed to the log.
     fn may_put_off(&self, events: &Events) -> bool
-        ensures { result ≡ true → put_off_of self.now < 16 }
+        ensures few { result ≡ true → put_off_of self.now < 16 }
+        ensures early { result ≡ true → gives_early (server_of self.now) ≡ true }
     {
         self.server.release().is_early()
             && self.put_off < MOST_PUT_OFF
