@@ -32,7 +32,7 @@ impl Plan for TwoClients {
     ) -> Result<(), Wrong> {
         let (one, two) = (server.opened(alloc)?, server.opened(alloc)?);
         say(alloc, server, one, b"begin a\nput a k 1\n")?;
-        if server.is_settled() || server.is_waiting() {
+        if !server.release().is_early() || server.is_settled() || server.is_waiting() {
             return Err(Wrong::Value);
         }
         is(server.to_write(one), b"begun 1\ndone\n")?;

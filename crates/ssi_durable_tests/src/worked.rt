@@ -110,7 +110,7 @@ impl Plan for TwoClients {
         is(server.to_write(two), b"")?;
         // nothing is to be written, so nothing was
         server.written(one, 6);
-        if server.settle().is_err() {
+        if server.release().is_early() || !server.is_waiting() || server.settle().is_err() {
             return Err(Wrong::Failed);
         }
         is(server.to_write(one), b"begun 1\ndone\nvalue 1\n")?;
